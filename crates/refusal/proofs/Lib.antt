@@ -1,0 +1,2 @@
+-- The proofs of what specs/ claims of refusals and verdicts.
+pub mod Told
