@@ -7,7 +7,18 @@ use native.Mathlib.Omega.{arith}
 use lib.ListN.{getD}
 use Rattle.refusal.specs.declared.Refusal.{Refusal}
 use Rattle.refusal.specs.declared.Refusal.the-variants.{
-  BadColumns, BadParties, BadForm, NoSuchParty, PartyBusy, NoSuchCall, TableFull, PartyIdle, MovesSpent, NoRoom, NoSuchOrder}
+  BadColumns,
+  BadParties,
+  BadForm,
+  NoSuchParty,
+  PartyBusy,
+  NoSuchCall,
+  TableFull,
+  PartyIdle,
+  MovesSpent,
+  NoRoom,
+  NoSuchOrder,
+}
 use Rattle.refusal.specs.declared.Verdict.{Verdict}
 use Rattle.refusal.specs.declared.Verdict.the-variants.{Accepted, Refused}
 use Rattle.refusal.specs.Number.{numberOf}

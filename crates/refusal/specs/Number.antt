@@ -2,7 +2,18 @@
 use Prim.Native.Nat.{ℕ}
 use Rattle.refusal.specs.declared.Refusal.{Refusal}
 use Rattle.refusal.specs.declared.Refusal.the-variants.{
-  BadColumns, BadParties, BadForm, NoSuchParty, PartyBusy, NoSuchCall, TableFull, PartyIdle, MovesSpent, NoRoom, NoSuchOrder}
+  BadColumns,
+  BadParties,
+  BadForm,
+  NoSuchParty,
+  PartyBusy,
+  NoSuchCall,
+  TableFull,
+  PartyIdle,
+  MovesSpent,
+  NoRoom,
+  NoSuchOrder,
+}
 
 abbrev pub numberOf : Refusal → ℕ
 numberOf BadColumns = 1

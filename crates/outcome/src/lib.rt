@@ -1,0 +1,1 @@
+// What it means that a contract leaves one outcome only: definitions alone, in specs/.
