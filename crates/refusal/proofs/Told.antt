@@ -22,7 +22,7 @@ use Rattle.refusal.specs.declared.Refusal.the-variants.{
 use Rattle.refusal.specs.declared.Verdict.{Verdict}
 use Rattle.refusal.specs.declared.Verdict.the-variants.{Accepted, Refused}
 use Rattle.refusal.specs.Number.{numberOf}
-use Rattle.refusal.specs.Answer.{Answer, accepted, refused, verdict}
+use Rattle.refusal.specs.Answer.{verdictIs}
 use Rattle.refusal.specs.Claims.{NumbersDiffer, VerdictsDiffer}
 
 -- the refusals in the order of their numbers, from 1

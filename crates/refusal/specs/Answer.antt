@@ -6,17 +6,39 @@ use Rattle.refusal.specs.declared.Verdict.{Verdict}
 use Rattle.refusal.specs.declared.Verdict.the-variants.{Accepted, Refused}
 use Rattle.refusal.specs.Number.{numberOf}
 
--- an entry point accepts what it is given and answers a value, or refuses it by a number
+-- what an entry point answers: it accepts and gives a value, or it refuses and gives a number
 pub data Answer (A : Type 0) : Type 0 where
   accepted : A → Answer A
   refused : ℕ → Answer A
 
--- One row of the table in its place: where the test holds the number is given, and what comes later is not looked at.
-abbrev pub refusing : {A : Type 0} → Bool → ℕ → Answer A → Answer A
+-- what an entry point leaves: the lent memory as it is afterwards, and the answer
+pub record Left (M A : Type 0) : Type 0 where
+  pub memory : M
+  pub answer : Answer A
+
+-- what tests find: nothing to refuse, or the number of the first refusal that applies
+abbrev pub Tests : Type 0
+Tests = Answer (Unit {0})
+
+abbrev pub passed : Tests
+passed = accepted tt
+
+-- one row of the table in its place: where the test holds its number is given, and no later test counts
+abbrev pub refusing : Bool → ℕ → Tests → Tests
 refusing true number later = refused number
 refusing false number later = later
 
--- The verdict of the tests as the document has it.
-abbrev pub verdict : Verdict → Answer (Unit {0})
-verdict Accepted = accepted tt
-verdict (Refused why) = refused (numberOf why)
+-- the answer of an entry point that changes nothing: the tests come first
+abbrev pub answering : {A : Type 0} → Tests → Answer A → Answer A
+answering (accepted done) answer = answer
+answering (refused number) answer = refused number
+
+-- what an entry point leaves: a refusal gives its number alone and leaves the memory as found
+abbrev pub leaving : {M A : Type 0} → Tests → (found : M) → Left M A → Left M A
+leaving (accepted done) found left = left
+leaving (refused number) found left = record { memory = found; answer = refused number }
+
+-- the code's verdict in the document's terms
+abbrev pub verdictIs : Verdict → Tests
+verdictIs Accepted = passed
+verdictIs (Refused why) = refused (numberOf why)

@@ -1,0 +1,2 @@
+-- The laws of the number layout and of fields.
+pub mod Numbers

@@ -1,0 +1,61 @@
+-- Fields of a lent record: where they stand, what is refused, what a load answers and a store leaves (document 01, "Key fields" and "Refusal numbers").
+use Prim.{Unit, tt}
+use mathlib.Core.Bool.{Bool, true, false}
+use mathlib.Core.List.{List, [], _∷_, _++_}
+use Prim.Native.Nat.{ℕ, zero, suc, _+_}
+use lib.Dec.{ltb}
+use lib.ListN.{length, take, drop}
+use Rattle.refusal.specs.Number.{numberOf}
+use Rattle.refusal.specs.Answer.{Answer, accepted, refused, Left, Tests, passed, refusing, answering, leaving}
+use Rattle.field.specs.declared.ByteOrder.{ByteOrder}
+use Rattle.field.specs.declared.ByteOrder.the-variants.{HighFirst, LowFirst}
+use Rattle.field.specs.declared.Loaded.{Loaded}
+use Rattle.field.specs.declared.Loaded.the-variants.{Key, Refused}
+use Rattle.field.specs.Layout.{numberIn, bytesIn}
+
+-- the bytes of a record from a place on, as many as the width says
+abbrev pub bytesAt : ℕ → List ℕ → ℕ → List ℕ
+bytesAt width bytes place = take width (drop place bytes)
+
+-- a record with other bytes from a place on, and no byte changed before them or behind them
+abbrev pub putBytes : List ℕ → ℕ → List ℕ → List ℕ
+putBytes bytes place new = take place bytes ++ new ++ drop (place + length new) bytes
+
+-- the number that a field holds
+unfoldable pub fieldAt : ByteOrder → ℕ → List ℕ → ℕ → ℕ
+fieldAt order width bytes place = numberIn order (bytesAt width bytes place)
+
+-- a record after a number is stored in a field
+unfoldable pub stored : ByteOrder → ℕ → List ℕ → ℕ → ℕ → List ℕ
+stored order width bytes place number = putBytes bytes place (bytesIn order width number)
+
+-- Order code 0 is high first, 1 low first. (No other code gets past the tests.)
+abbrev pub orderOf : ℕ → ByteOrder
+orderOf zero = HighFirst
+orderOf (suc code) = LowFirst
+
+-- 11: the order code is not 0 or 1
+abbrev pub badOrder : ℕ → Bool
+badOrder code = ltb 1 code
+
+-- 10: the field is not wholly inside a record of this length
+abbrev pub notInside : ℕ → ℕ → Bool
+notInside long place = ltb long (place + 4)
+
+-- fields are tested for 11, then 10
+unfoldable pub fieldTests : ℕ → ℕ → ℕ → Tests
+fieldTests long place code = refusing (badOrder code) 11 (refusing (notInside long place) 10 passed)
+
+-- a load answers the key that the four bytes stand for in the named order
+unfoldable pub loadOf : List ℕ → ℕ → ℕ → Answer ℕ
+loadOf bytes place code = answering (fieldTests (length bytes) place code) (accepted (fieldAt (orderOf code) 4 bytes place))
+
+-- a store writes those four bytes and no other
+unfoldable pub storeOf : List ℕ → ℕ → ℕ → ℕ → Left (List ℕ) (Unit {0})
+storeOf bytes place code key =
+    leaving (fieldTests (length bytes) place code) bytes (record { memory = stored (orderOf code) 4 bytes place key; answer = passed })
+
+-- the code's answer to a load in the document's terms
+abbrev pub loadedIs : Loaded → Answer ℕ
+loadedIs (Key key) = accepted key
+loadedIs (Refused why) = refused (numberOf why)

@@ -1,0 +1,7 @@
+-- The contract of this crate leaves one outcome.
+-- Assumes nothing.
+use Rattle.outcome.specs.Outcome.{OneOutcome, by-equation}
+use Rattle.refusal.proofs.Refusal.number.Reads as number
+
+pub number-fixed : OneOutcome number.Post (λ κs answer exit. answer)
+number-fixed κs given answer₁ answer₂ exit₁ exit₂ = by-equation
