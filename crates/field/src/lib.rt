@@ -2,12 +2,11 @@
 use refusal::Refusal;
 use refusal::Verdict;
 ghost use mathlib.Core.Path.{_≡_};
-ghost use Prim.Native.Nat.{_+_, _*_, _/_, _%_, _≤_};
-ghost use lib.Dec.{leb};
-ghost use lib.ListN.{length};
+ghost use Prim.Native.Nat.{_+_, _*_, _/_, _%_, _<_, _≤_};
+ghost use lib.ListN.{length, set};
 ghost use Rattle.refusal.specs.Answer.{verdictIs};
 ghost use Rattle.field.specs.Layout.{turned};
-
+ghost use Rattle.field.specs.Field.{fourBytes, bytesAt, putBytes, orderOf, notInside, fieldTests, loadedIs, loadOf, storeLeaves, storeOf};
 
 // Which byte of a number stands first.
 pub enum ByteOrder {
@@ -21,7 +20,7 @@ pub enum Loaded {
     Refused(Refusal),
 }
 
-// The four bytes of a field.
+// The four bytes of a field, as they stand.
 pub struct Four(pub u8, pub u8, pub u8, pub u8);
 
 // The number of four bytes, the high byte first.
@@ -41,4 +40,104 @@ fn split(key: u32) -> Four
         ((key >> 8) & 255) as u8,
         (key & 255) as u8,
     )
+}
+
+// Four bytes turned from high first to the order, or back: low first is the reverse.
+fn turn(order: ByteOrder, four: Four) -> Four
+    ensures { λ r. ⌜ fourBytes r ≡ turned order (fourBytes four) ⌝ }
+{
+    match order {
+        ByteOrder::HighFirst => four,
+        ByteOrder::LowFirst => Four(four.3, four.2, four.1, four.0),
+    }
+}
+
+// The four bytes from a place on.
+fn four_at(bytes: &[u8], place: usize) -> Four
+    requires { ⌜ place + 4 ≤ length (now bytes) ⌝ }
+    ensures { λ r. ⌜ fourBytes r ≡ bytesAt 4 (now (bytes .entry)) place ⌝ }
+{
+    Four(bytes[place], bytes[place + 1], bytes[place + 2], bytes[place + 3])
+}
+
+// One byte written at a place, and no other.
+fn put(bytes: &mut [u8], place: usize, byte: u8)
+    requires { ⌜ place < length (now bytes) ⌝ }
+    ensures { λ r. ⌜ now (bytes .exit) ≡ set (now (bytes .entry)) place byte ⌝ }
+{
+    bytes[place] = byte;
+}
+
+// Four bytes written from a place on, and no other.
+fn put_four(bytes: &mut [u8], place: usize, four: Four)
+    requires { ⌜ place + 4 ≤ length (now bytes) ⌝ }
+    ensures { λ r. ⌜ now (bytes .exit) ≡ putBytes (now (bytes .entry)) place (fourBytes four) ⌝ }
+{
+    put(bytes, place, four.0);
+    put(bytes, place + 1, four.1);
+    put(bytes, place + 2, four.2);
+    put(bytes, place + 3, four.3);
+}
+
+// The order that a code names.
+fn order_of(code: u32) -> ByteOrder
+    ensures { λ r. ⌜ r ≡ orderOf code ⌝ }
+{
+    match code {
+        0 => ByteOrder::HighFirst,
+        _ => ByteOrder::LowFirst,
+    }
+}
+
+// Whether a field at a place runs past a record of this length. The length is taken down, so that no sum can wrap.
+fn is_outside(long: usize, place: usize) -> bool
+    ensures { λ r. ⌜ r ≡ notInside long place ⌝ }
+{
+    if long < 4 {
+        return true;
+    }
+    if long - 4 < place {
+        return true;
+    }
+    false
+}
+
+// The tests of both entry points, in their order: 11, then 10.
+fn field_verdict(long: usize, place: usize, code: u32) -> Verdict
+    ensures { λ r. ⌜ verdictIs r ≡ fieldTests long place code ⌝ }
+{
+    let no_order = 1 < code;
+    let outside = is_outside(long, place);
+    if no_order {
+        return Verdict::Refused(Refusal::NoSuchOrder);
+    }
+    if outside {
+        return Verdict::Refused(Refusal::NoRoom);
+    }
+    Verdict::Accepted
+}
+
+// The key that the field at a place holds in the order that the code names, or the refusal.
+pub fn load(bytes: &[u8], place: usize, code: u32) -> Loaded
+    ensures { λ r. ⌜ loadedIs r ≡ loadOf (now (bytes .entry)) place code ⌝ }
+{
+    let verdict = field_verdict(bytes.len(), place, code);
+    match verdict {
+        Verdict::Accepted => Loaded::Key(join(turn(order_of(code), four_at(bytes, place)))),
+        Verdict::Refused(why) => Loaded::Refused(why),
+    }
+}
+
+// Writes the key's four bytes, in the order that the code names, to the field at a place, or refuses and writes nothing.
+pub fn store(bytes: &mut [u8], place: usize, code: u32, key: u32) -> Verdict
+    ensures { λ r. ⌜ storeLeaves (now (bytes .exit)) r ≡ storeOf (now (bytes .entry)) place code key ⌝ }
+{
+    let verdict = field_verdict(bytes.len(), place, code);
+    match verdict {
+        Verdict::Accepted => {
+            put_four(bytes, place, turn(order_of(code), split(key)));
+            Verdict::Accepted
+        }
+        Verdict::Refused(why) => Verdict::Refused(why),
+    }
 }

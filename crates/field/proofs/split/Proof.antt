@@ -1,0 +1,27 @@
+use Rattle.field.proofs.split.Statement.{statement}
+use Rattle.field.proofs.split.Tie as tie
+use Rattle.field.proofs.split.Reads as reads
+use Rattle.field.proofs.split.Lts as lts
+
+-- src/lib.rt:38:9
+cast-t4 : tie.Need-cast-t4
+cast-t4 c = ?
+
+-- src/lib.rt:39:9
+cast-t7 : tie.Need-cast-t7
+cast-t7 c = ?
+
+-- src/lib.rt:40:9
+cast-t10 : tie.Need-cast-t10
+cast-t10 c = ?
+
+-- src/lib.rt:41:9
+cast-t12 : tie.Need-cast-t12
+cast-t12 c = ?
+
+-- src/lib.rt:34:1
+returns : tie.Need-returns
+returns c = ?
+
+pub split-spec : {M : Type 1} → statement M
+split-spec = tie.close (tie.spec cast-t4 cast-t7 cast-t10 cast-t12 returns)
