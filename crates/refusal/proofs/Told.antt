@@ -22,7 +22,7 @@ use Rattle.refusal.specs.declared.Refusal.the-variants.{
 use Rattle.refusal.specs.declared.Verdict.{Verdict}
 use Rattle.refusal.specs.declared.Verdict.the-variants.{Accepted, Refused}
 use Rattle.refusal.specs.Number.{numberOf}
-use Rattle.refusal.specs.Answer.{verdictIs}
+use Rattle.refusal.specs.Answer.{Tests, verdictIs}
 use Rattle.refusal.specs.Claims.{NumbersDiffer, VerdictsDiffer}
 
 -- the refusals in the order of their numbers, from 1
@@ -55,3 +55,7 @@ verdicts-differ Accepted Accepted e = refl
 verdicts-differ Accepted (Refused b) e = let z : _≡_ {A = ℕ} 0 1 = cc in absurd (omega arith)
 verdicts-differ (Refused a) Accepted e = let z : _≡_ {A = ℕ} 0 1 = cc in absurd (omega arith)
 verdicts-differ (Refused a) (Refused b) e = let n : numberOf a ≡ numberOf b = cc in ap Refused (numbers-differ a b n)
+
+-- what the tests found, from the code's verdict and its contract
+pub tests-told : {found verdict : Verdict} {tests : Tests} → verdictIs found ≡ tests → found ≡ verdict → tests ≡ verdictIs verdict
+tests-told meets is = sym meets ∙ ap verdictIs is

@@ -1,3 +1,4 @@
+use Rattle.field.proofs.Laws.{four-read}
 use borrow.Author.Needs.{needs}
 use Rattle.field.proofs.four_at.Statement.{statement}
 use Rattle.field.proofs.four_at.Tie as tie
@@ -34,7 +35,7 @@ shared-slice-read-t13 c = search needs
 
 -- src/lib.rt:56:1
 returns : tie.Need-returns
-returns c = ?
+returns c = let s = c .before .before .before .before in four-read (s .args .bytes .now) (s .args .place) (s .pre)
 
 pub four-at-spec : {M : Type 1} → statement M
 four-at-spec =

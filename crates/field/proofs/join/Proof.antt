@@ -1,3 +1,5 @@
+use native.Mathlib.Omega.{arith}
+use Rattle.field.proofs.Laws.{joined}
 use borrow.Author.Needs.{needs}
 use Rattle.field.proofs.join.Statement.{statement}
 use Rattle.field.proofs.join.Tie as tie
@@ -22,7 +24,7 @@ cast-result-4 c = search needs
 
 -- src/lib.rt:27:1
 returns : tie.Need-returns
-returns c = ?
+returns c = let f = c .before .before .before .before .args .four in joined (f .0) (f .1) (f .2) (f .3) (omega arith) (omega arith) (omega arith) (omega arith)
 
 pub join-spec : {M : Type 1} → statement M
 join-spec = tie.close (tie.spec cast-result cast-result-2 cast-result-3 cast-result-4 returns)

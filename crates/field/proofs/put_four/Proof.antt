@@ -1,3 +1,4 @@
+use Rattle.field.proofs.Laws.{four-written}
 use borrow.Author.Needs.{needs}
 use Rattle.field.proofs.put_four.Statement.{statement}
 use Rattle.field.proofs.put_four.Tie as tie
@@ -39,7 +40,7 @@ same-length c = search needs
 
 -- src/lib.rt:72:1
 returns : tie.Need-returns
-returns c = ?
+returns c = let s = c .before .before .before .before .before .before .before .before .before .before .before .before .before .before .before .before .before in let f = s .args .four in simp (c .before .before .put4 .ensures, c .before .before .before .before .before .before .put3 .ensures, c .before .before .before .before .before .before .before .before .before .before .put2 .ensures, c .before .before .before .before .before .before .before .before .before .before .before .before .before .before .put .ensures) (four-written (s .args .bytes .now) (s .args .place) (f .0) (f .1) (f .2) (f .3) (s .pre))
 
 pub put-four-spec : {M : Type 1} → statement M
 put-four-spec =

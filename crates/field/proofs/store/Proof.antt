@@ -1,3 +1,9 @@
+use mathlib.Core.Path.{_∙_, ap}
+use lib.ListN.{length}
+use Rattle.refusal.proofs.Told.{tests-told}
+use Rattle.field.specs.declared.ByteOrder.{ByteOrder}
+use Rattle.field.specs.Field.{stored}
+use Rattle.field.proofs.Entry.{is-inside, store-accepts, store-refuses, key-stored}
 use borrow.Author.Needs.{needs}
 use Rattle.field.proofs.store.Statement.{statement}
 use Rattle.field.proofs.store.Tie as tie
@@ -31,7 +37,7 @@ turn-requires c κs = search needs
 
 -- src/lib.rt:138:13
 put-four-requires : tie.Need-put-four-requires
-put-four-requires c κs = ?
+put-four-requires c κs = let s = c .before .before .before .before .before .before .before .before in is-inside (length (s .args .bytes .now)) (s .args .place) (s .args .code) (tests-told (c .before .before .before .before .before .before .field-verdict .ensures) (c .before .before .before .before .enum-told .given .1))
 
 -- src/lib.rt:141:26
 enum-known-verdict : tie.Need-enum-known-verdict
@@ -43,11 +49,11 @@ same-length c = search needs
 
 -- src/lib.rt:132:1
 returns : tie.Need-returns
-returns c = ?
+returns c = let s = c .before .before .before .before .before .before .before .before .before .before .before in let a = s .args in store-accepts (a .bytes .now) (a .place) (a .code) (a .key) (tests-told (c .before .before .before .before .before .before .before .before .before .field-verdict .ensures) (c .before .before .before .before .before .before .before .enum-told .given .1)) (key-stored (c .before .before .before .before .before .order-of .result) (a .bytes .now) (a .place) (a .key) (c .before .before .before .before .split .result) (c .before .before .before .turn .result) (c .before .before .before .before .split .ensures) (c .before .before .before .turn .ensures) (c .before .before .put-four .ensures) ∙ ap (λ (o : ByteOrder). stored o 4 (a .bytes .now) (a .place) (a .key)) (c .before .before .before .before .before .order-of .ensures))
 
 -- src/lib.rt:132:1
 returns-2 : tie.Need-returns-2
-returns-2 c = ?
+returns-2 c = let a = c .before .before .before .before .before .args in store-refuses (a .bytes .now) (a .place) (a .code) (a .key) (tests-told (c .before .before .before .field-verdict .ensures) (c .before .verdict .given .1))
 
 pub store-spec : {M : Type 1} → statement M
 store-spec =

@@ -14,11 +14,11 @@ enum-told-2 c = search needs
 
 -- src/lib.rt:46:1
 returns : tie.Need-returns
-returns c = ?
+returns c = rw (c .enum-told .given .1)
 
 -- src/lib.rt:46:1
 returns-2 : tie.Need-returns-2
-returns-2 c = ?
+returns-2 c = rw (c .enum-told2 .given .1)
 
 pub turn-spec : {M : Type 1} → statement M
 turn-spec = tie.close (tie.spec enum-told enum-told-2 returns returns-2)
