@@ -1,41 +1,34 @@
 -- The two entry points case by case: what the tests found, and what is then answered and left.
 -- Assumes nothing.
-use Prim.{Unit, tt}
-use mathlib.Core.Path.{_≡_, refl, ap, sym, _∙_}
-use mathlib.Core.Bool.{Bool, true, false}
-use mathlib.Core.List.{List, [], _∷_}
-use Prim.Native.Nat.{ℕ, zero, suc, _+_, _*_, _/_, _%_, _^_, _<_, _≤_}
+use mathlib.Core.Path.{_≡_, ap, sym, _∙_}
+use mathlib.Core.List.{List}
+use Prim.Native.Nat.{ℕ, _+_, _*_, _/_, _%_, _≤_}
 use native.Mathlib.Nat.{div-one}
 use native.Mathlib.Omega.{arith}
-use lib.Dec.{ltb}
 use lib.ListN.{length}
 use borrow.Author.Tests.{ltb-false}
-use Rattle.refusal.specs.Number.{numberOf}
-use Rattle.refusal.specs.Answer.{Answer, accepted, refused, Left, Tests, passed, refusing, verdictIs}
-use Rattle.refusal.specs.declared.Verdict.{Verdict}
-use Rattle.refusal.specs.declared.Refusal.{Refusal}
+use Rattle.refusal.specs.Answer.{accepted, refused, left, passed, refusing}
+use Rattle.refusal.proofs.Laws.{past-test}
 use Rattle.field.specs.declared.ByteOrder.{ByteOrder}
 use Rattle.field.specs.declared.Four.{Four}
 use Rattle.field.specs.Layout.{highNumber, highBytes, turned, numberIn, bytesIn}
-use Rattle.field.specs.Field.{bytesAt, putBytes, fieldAt, stored, orderOf, badOrder, notInside, fieldTests, loadOf, storeOf, fourBytes, storeLeaves}
+use Rattle.field.specs.Field.{bytesAt, putBytes, fieldAt, stored, orderOf, badOrder, notInside, fieldTests, loadOf, storeOf, fourBytes}
 
 -- ---- what passing the tests tells
 
-passed-inside : (a b : Bool) → refusing a 11 (refusing b 10 passed) ≡ passed → b ≡ false
-passed-inside true b e = let z : _≡_ {A = ℕ} 0 1 = cc in absurd (omega arith)
-passed-inside false true e = let z : _≡_ {A = ℕ} 0 1 = cc in absurd (omega arith)
-passed-inside false false e = refl
-
 pub is-inside : (long place code : ℕ) → fieldTests long place code ≡ passed → place + 4 ≤ long
 unfolding fieldTests
-is-inside long place code e = ltb-false long (place + 4) (passed-inside (badOrder code) (notInside long place) e)
+is-inside long place code passes =
+    let past-order : refusing (notInside long place) 10 passed ≡ passed = past-test (badOrder code) 11 (refusing (notInside long place) 10 passed) passes .1 in
+    ltb-false long (place + 4) (past-test (notInside long place) 10 passed past-order .0)
 
 -- ---- a load
 
 module _ (bytes : List ℕ) (place code : ℕ) where
-  pub load-accepts : {key : ℕ} → fieldTests (length bytes) place code ≡ passed → key ≡ fieldAt (orderOf code) 4 bytes place → accepted key ≡ loadOf bytes place code
+  pub load-accepts : {order : ByteOrder} {key : ℕ} →
+      fieldTests (length bytes) place code ≡ passed → order ≡ orderOf code → key ≡ fieldAt order 4 bytes place → accepted key ≡ loadOf bytes place code
   unfolding loadOf
-  load-accepts passes same = rw (passes, same)
+  load-accepts passes named held = rw (passes, ← named, held)
 
   pub load-refuses : {number : ℕ} → fieldTests (length bytes) place code ≡ refused number → refused number ≡ loadOf bytes place code
   unfolding loadOf
@@ -53,13 +46,13 @@ key-held order bytes place read high {key} at-place in-order sum =
 -- ---- a store
 
 module _ (bytes : List ℕ) (place code key : ℕ) where
-  pub store-accepts : {after : List ℕ} → fieldTests (length bytes) place code ≡ passed → after ≡ stored (orderOf code) 4 bytes place key →
-      _≡_ {A = Left (List ℕ) (Unit {0})} (record { memory = after; answer = passed }) (storeOf bytes place code key)
+  pub store-accepts : {order : ByteOrder} {after : List ℕ} →
+      fieldTests (length bytes) place code ≡ passed → order ≡ orderOf code → after ≡ stored order 4 bytes place key →
+      left after passed ≡ storeOf bytes place code key
   unfolding storeOf
-  store-accepts passes same = rw (passes, same)
+  store-accepts passes named left = rw (passes, ← named, left)
 
-  pub store-refuses : {number : ℕ} → fieldTests (length bytes) place code ≡ refused number →
-      _≡_ {A = Left (List ℕ) (Unit {0})} (record { memory = bytes; answer = refused number }) (storeOf bytes place code key)
+  pub store-refuses : {number : ℕ} → fieldTests (length bytes) place code ≡ refused number → left bytes (refused number) ≡ storeOf bytes place code key
   unfolding storeOf
   store-refuses stops = rw stops
 

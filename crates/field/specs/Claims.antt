@@ -5,7 +5,7 @@ use mathlib.Core.List.{List}
 use mathlib.Core.Logic.{_⊎_}
 use Prim.Native.Nat.{ℕ, _+_, _^_, _<_, _≤_}
 use lib.ListN.{length, getD}
-use Rattle.refusal.specs.Answer.{accepted, refused, passed}
+use Rattle.refusal.specs.Answer.{accepted, refused, left, passed}
 use Rattle.field.specs.declared.ByteOrder.{ByteOrder}
 use Rattle.field.specs.declared.Loaded.{Loaded}
 use Rattle.field.specs.Layout.{numberIn, bytesIn, Bytes}
@@ -52,7 +52,7 @@ StoreThenLoad =
 abbrev pub LoadThenStore : Type 0
 LoadThenStore =
     (bytes : List ℕ) (place code key : ℕ) → Bytes bytes → loadOf bytes place code ≡ accepted key →
-    storeOf bytes place code key ≡ record { memory = bytes; answer = passed }
+    storeOf bytes place code key ≡ left bytes passed
 
 -- a store that is refused leaves the record as found
 abbrev pub RefusedStoreLeaves : Type 0

@@ -6,7 +6,7 @@ use Prim.Native.Nat.{ℕ, zero, suc, _+_}
 use lib.Dec.{ltb}
 use lib.ListN.{length, take, drop}
 use Rattle.refusal.specs.Number.{numberOf}
-use Rattle.refusal.specs.Answer.{Answer, accepted, refused, Left, Tests, passed, refusing, answering, leaving, verdictIs}
+use Rattle.refusal.specs.Answer.{Answer, accepted, refused, Left, left, Tests, passed, refusing, answering, leaving, verdictIs}
 use Rattle.refusal.specs.declared.Verdict.{Verdict}
 use Rattle.field.specs.declared.Four.{Four}
 use Rattle.field.specs.declared.ByteOrder.{ByteOrder}
@@ -55,7 +55,7 @@ loadOf bytes place code = answering (fieldTests (length bytes) place code) (acce
 -- a store writes those four bytes and no other
 unfoldable pub storeOf : List ℕ → ℕ → ℕ → ℕ → Left (List ℕ) (Unit {0})
 storeOf bytes place code key =
-    leaving (fieldTests (length bytes) place code) bytes (record { memory = stored (orderOf code) 4 bytes place key; answer = passed })
+    leaving (fieldTests (length bytes) place code) bytes (left (stored (orderOf code) 4 bytes place key) passed)
 
 -- the code's four bytes as a list
 abbrev pub fourBytes : Four → List ℕ
@@ -63,7 +63,7 @@ fourBytes four = four .0 ∷ four .1 ∷ four .2 ∷ four .3 ∷ []
 
 -- what the code's store leaves, in the document's terms
 abbrev pub storeLeaves : List ℕ → Verdict → Left (List ℕ) (Unit {0})
-storeLeaves bytes answer = record { memory = bytes; answer = verdictIs answer }
+storeLeaves bytes answer = left bytes (verdictIs answer)
 
 -- the code's answer to a load in the document's terms
 abbrev pub loadedIs : Loaded → Answer ℕ

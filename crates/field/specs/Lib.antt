@@ -2,3 +2,4 @@
 pub mod Layout
 pub mod Field
 pub mod Claims
+pub mod Examples

@@ -6,7 +6,7 @@ ghost use Prim.Native.Nat.{_+_, _*_, _/_, _%_, _<_, _≤_};
 ghost use lib.ListN.{length, set};
 ghost use Rattle.refusal.specs.Answer.{verdictIs};
 ghost use Rattle.field.specs.Layout.{turned};
-ghost use Rattle.field.specs.Field.{fourBytes, bytesAt, putBytes, orderOf, notInside, fieldTests, loadedIs, loadOf, storeLeaves, storeOf};
+ghost use Rattle.field.specs.Field.{fourBytes, bytesAt, putBytes, fieldAt, stored, orderOf, notInside, fieldTests, loadedIs, loadOf, storeLeaves, storeOf};
 
 // Which byte of a number stands first.
 pub enum ByteOrder {
@@ -117,13 +117,29 @@ fn field_verdict(long: usize, place: usize, code: u32) -> Verdict
     Verdict::Accepted
 }
 
+// The key that the field at a place holds in an order.
+fn key_at(bytes: &[u8], place: usize, order: ByteOrder) -> u32
+    requires { ⌜ place + 4 ≤ length (now bytes) ⌝ }
+    ensures { λ r. ⌜ r ≡ fieldAt order 4 (now (bytes .entry)) place ⌝ }
+{
+    join(turn(order, four_at(bytes, place)))
+}
+
+// The key's four bytes written to the field at a place in an order, and no other byte.
+fn put_key(bytes: &mut [u8], place: usize, order: ByteOrder, key: u32)
+    requires { ⌜ place + 4 ≤ length (now bytes) ⌝ }
+    ensures { λ r. ⌜ now (bytes .exit) ≡ stored order 4 (now (bytes .entry)) place key ⌝ }
+{
+    put_four(bytes, place, turn(order, split(key)))
+}
+
 // The key that the field at a place holds in the order that the code names, or the refusal.
 pub fn load(bytes: &[u8], place: usize, code: u32) -> Loaded
     ensures { λ r. ⌜ loadedIs r ≡ loadOf (now (bytes .entry)) place code ⌝ }
 {
     let verdict = field_verdict(bytes.len(), place, code);
     match verdict {
-        Verdict::Accepted => Loaded::Key(join(turn(order_of(code), four_at(bytes, place)))),
+        Verdict::Accepted => Loaded::Key(key_at(bytes, place, order_of(code))),
         Verdict::Refused(why) => Loaded::Refused(why),
     }
 }
@@ -135,7 +151,7 @@ pub fn store(bytes: &mut [u8], place: usize, code: u32, key: u32) -> Verdict
     let verdict = field_verdict(bytes.len(), place, code);
     match verdict {
         Verdict::Accepted => {
-            put_four(bytes, place, turn(order_of(code), split(key)));
+            put_key(bytes, place, order_of(code), key);
             Verdict::Accepted
         }
         Verdict::Refused(why) => Verdict::Refused(why),

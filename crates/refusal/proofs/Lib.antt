@@ -1,3 +1,4 @@
--- The proofs of what specs/ claims of refusals and verdicts, and that the contract leaves no choice.
+-- The proofs of what specs/ claims of refusals and verdicts, the laws of answers, and that the contract leaves no choice.
+pub mod Laws
 pub mod Told
 pub mod Determined

@@ -3,7 +3,6 @@
 use mathlib.Core.Path.{_≡_, refl, ap, sym, _∙_}
 use mathlib.Core.List.{List, [], _∷_}
 use Prim.Native.Nat.{ℕ}
-use native.Mathlib.Omega.{arith}
 use lib.ListN.{getD}
 use Rattle.refusal.specs.declared.Refusal.{Refusal}
 use Rattle.refusal.specs.declared.Refusal.the-variants.{
@@ -24,6 +23,7 @@ use Rattle.refusal.specs.declared.Verdict.the-variants.{Accepted, Refuse
 use Rattle.refusal.specs.Number.{numberOf}
 use Rattle.refusal.specs.Answer.{Tests, verdictIs}
 use Rattle.refusal.specs.Claims.{NumbersDiffer, VerdictsDiffer}
+use Rattle.refusal.proofs.Laws.{not-both}
 
 -- the refusals in the order of their numbers, from 1
 table : List Refusal
@@ -52,8 +52,8 @@ numbers-differ a b e = sym (named-number a) ∙ ap named e ∙ named-number b
 
 pub verdicts-differ : VerdictsDiffer
 verdicts-differ Accepted Accepted e = refl
-verdicts-differ Accepted (Refused b) e = let z : _≡_ {A = ℕ} 0 1 = cc in absurd (omega arith)
-verdicts-differ (Refused a) Accepted e = let z : _≡_ {A = ℕ} 0 1 = cc in absurd (omega arith)
+verdicts-differ Accepted (Refused b) e = absurd (not-both e)
+verdicts-differ (Refused a) Accepted e = absurd (not-both (sym e))
 verdicts-differ (Refused a) (Refused b) e = let n : numberOf a ≡ numberOf b = cc in ap Refused (numbers-differ a b n)
 
 -- what the tests found, from the code's verdict and its contract

@@ -16,6 +16,9 @@ pub record Left (M A : Type 0) : Type 0 where
   pub memory : M
   pub answer : Answer A
 
+abbrev pub left : {M A : Type 0} → M → Answer A → Left M A
+left memory answer = record { memory = memory; answer = answer }
+
 -- what tests find: nothing to refuse, or the number of the first refusal that applies
 abbrev pub Tests : Type 0
 Tests = Answer (Unit {0})
@@ -35,8 +38,8 @@ answering (refused number) answer = refused number
 
 -- what an entry point leaves: a refusal gives its number alone and leaves the memory as found
 abbrev pub leaving : {M A : Type 0} → Tests → (found : M) → Left M A → Left M A
-leaving (accepted done) found left = left
-leaving (refused number) found left = record { memory = found; answer = refused number }
+leaving (accepted done) found changed = changed
+leaving (refused number) found changed = left found (refused number)
 
 -- the code's verdict in the document's terms
 abbrev pub verdictIs : Verdict → Tests
