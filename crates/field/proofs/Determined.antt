@@ -6,7 +6,7 @@ use mathlib.Core.List.{List}
 use Prim.Native.Nat.{ℕ}
 use Rattle.outcome.specs.Outcome.{OneOutcome, by-equation}
 use Rattle.refusal.specs.declared.Verdict.{Verdict}
-use Rattle.refusal.specs.Answer.{Answer, Left}
+use Rattle.refusal.specs.Answer.{Left}
 use Rattle.refusal.proofs.Told.{verdicts-differ}
 use Rattle.field.specs.Field.{storeLeaves}
 use Rattle.field.proofs.Promises.{loaded-differ}

@@ -1,6 +1,7 @@
 -- The two entry points case by case: what the tests found, and what is then answered and left.
 -- Assumes nothing.
 use mathlib.Core.Path.{_≡_, ap, sym, _∙_}
+use mathlib.Core.Bool.{true, false}
 use mathlib.Core.List.{List}
 use Prim.Native.Nat.{ℕ, _+_, _*_, _/_, _%_, _≤_}
 use native.Mathlib.Nat.{div-one}
@@ -14,8 +15,22 @@ use Rattle.field.specs.declared.Four.{Four}
 use Rattle.field.specs.Layout.{highNumber, highBytes, turned, numberIn, bytesIn}
 use Rattle.field.specs.Field.{bytesAt, putBytes, fieldAt, stored, orderOf, badOrder, notInside, fieldTests, loadOf, storeOf, fourBytes}
 
--- ---- what passing the tests tells
+-- ---- the tests, in their order
 
+module _ (long place code : ℕ) where
+  pub tests-refuse-11 : badOrder code ≡ true → refused 11 ≡ fieldTests long place code
+  unfolding fieldTests
+  tests-refuse-11 no-order = rw no-order
+
+  pub tests-refuse-10 : badOrder code ≡ false → notInside long place ≡ true → refused 10 ≡ fieldTests long place code
+  unfolding fieldTests
+  tests-refuse-10 order past-the-end = rw (order, past-the-end)
+
+  pub tests-pass : badOrder code ≡ false → notInside long place ≡ false → passed ≡ fieldTests long place code
+  unfolding fieldTests
+  tests-pass order inside = rw (order, inside)
+
+-- a field that passes them lies inside its record
 pub is-inside : (long place code : ℕ) → fieldTests long place code ≡ passed → place + 4 ≤ long
 unfolding fieldTests
 is-inside long place code passes =

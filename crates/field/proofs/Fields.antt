@@ -1,17 +1,15 @@
 -- Fields of a record for every width: what a store leaves, store then load, load then store; then the two entry points.
 -- Assumes nothing.
-use Prim.{Unit, tt}
 use mathlib.Core.Path.{_≡_, refl, ap, sym, _∙_}
 use mathlib.Core.Logic.{_⊎_, ⊎-elim}
-use mathlib.Core.Bool.{Bool, true, false}
 use mathlib.Core.List.{List, [], _∷_, _++_, append-assoc}
-use Prim.Native.Nat.{ℕ, zero, suc, _+_, _-_, _^_, _<_, _≤_}
+use Prim.Native.Nat.{ℕ, zero, suc, _+_, _-_, _<_, _≤_}
 use native.Mathlib.Omega.{arith}
 use lib.ListN.{length, getD, take, drop, length-append, length-drop, take-append-drop, List·getD-append}
 use lib.Seq.{length-take-le, take-at, drop-at, take-add, getD-append-add, getD-take, getD-drop, sets-eq, length-sets}
 use Rattle.field.specs.declared.ByteOrder.{ByteOrder}
 use Rattle.field.specs.Layout.{numberIn, bytesIn, Bytes}
-use Rattle.field.specs.Field.{bytesAt, putBytes, fieldAt, stored, fieldTests, loadOf, storeOf}
+use Rattle.field.specs.Field.{bytesAt, putBytes, fieldAt, stored}
 use Rattle.field.specs.Claims.{StoreTouchesNoOther, StoredIsHeld, HeldIsStored}
 use Rattle.field.proofs.Numbers.{long-bytes, number-of-its-bytes, bytes-of-their-number}
 
@@ -100,5 +98,5 @@ pub held-is-stored : HeldIsStored
 unfolding fieldAt stored
 held-is-stored order width bytes place all inside =
     let same : bytesIn order width (numberIn order (bytesAt width bytes place)) ≡ bytesAt width bytes place =
-        rw (long-at bytes place width inside) at (bytes-of-their-number order (bytesAt width bytes place) (bytes-at bytes place width all)) in
+    rw (long-at bytes place width inside) at (bytes-of-their-number order (bytesAt width bytes place) (bytes-at bytes place width all)) in
     rw same (put-back bytes place width inside)

@@ -1,11 +1,11 @@
 -- The number layout for every width and both orders: bytes to a number and back.
 -- Assumes nothing.
 use mathlib.Core.Path.{_≡_, refl, ap, sym, _∙_}
-use mathlib.Core.List.{List, [], _∷_, reverse, reverseAux, reverse-reverse}
+use mathlib.Core.List.{List, [], _∷_, reverseAux, reverse-reverse}
 use Prim.Native.Nat.{ℕ, zero, suc, _+_, _*_, _/_, _%_, _^_, _<_, _≤_}
-use native.Mathlib.Nat.{pow-suc, mod-one, mod-lt, mod-eq-of-lt, div-add-mod', mul-add-div-right, mul-add-mod-self-right, div-eq-of-lt, mul-le-mul-right, mul-assoc, mul-comm, one-le-pow}
+use native.Mathlib.Nat.{pow-suc, mod-one, mod-lt, mod-eq-of-lt, div-add-mod', mul-add-div-right, mul-add-mod-self-right, div-eq-of-lt, mul-le-mul-right, one-le-pow}
 use native.Mathlib.Omega.{arith}
-use lib.ListN.{length, getD, length-reverse}
+use lib.ListN.{length, length-reverse}
 use Rattle.field.specs.declared.ByteOrder.{ByteOrder}
 use Rattle.field.specs.declared.ByteOrder.the-variants.{HighFirst, LowFirst}
 use Rattle.field.specs.Layout.{highNumber, highBytes, turned, numberIn, bytesIn, Bytes}
@@ -26,7 +26,7 @@ mod-product x a positive =
     let small : x / a % 256 ≤ 255 = omega arith in
     let least : x / a % 256 * a + x % a < a * 256 = omega (arith, mod-lt x positive, mul-le-mul-right a small) in
     let whole : x ≡ x / a / 256 * (a * 256) + (x / a % 256 * a + x % a) =
-        omega (arith, div-add-mod' x a, ap (λ (n : ℕ). n * a) (div-add-mod' (x / a) 256)) in
+    omega (arith, div-add-mod' x a, ap (λ (n : ℕ). n * a) (div-add-mod' (x / a) 256)) in
     ap (λ (n : ℕ). n % (a * 256)) whole ∙ mul-add-mod-self-right (x / a / 256) (a * 256) (x / a % 256 * a + x % a) ∙ mod-eq-of-lt least
 
 high-number-mod : (width number : ℕ) → highNumber (highBytes width number) ≡ number % 256 ^ width
@@ -41,7 +41,7 @@ high-bytes-above (suc width) above number =
     let power : ℕ = 256 ^ width in
     let regroup : above * 256 ^ suc width + number ≡ above * 256 * 256 ^ width + number = omega (arith, pow-suc 256 width, ap (λ (n : ℕ). above * n) (pow-suc 256 width)) in
     let first : (above * 256 * 256 ^ width + number) / 256 ^ width % 256 ≡ number / 256 ^ width % 256 =
-        ap (λ (n : ℕ). n % 256) (mul-add-div-right (power-positive width) (above * 256) number) ∙ mul-add-mod-self-right above 256 (number / 256 ^ width) in
+    ap (λ (n : ℕ). n % 256) (mul-add-div-right (power-positive width) (above * 256) number) ∙ mul-add-mod-self-right above 256 (number / 256 ^ width) in
     rw (regroup, first, high-bytes-above width (above * 256) number)
 
 high-number-below : (bytes : List ℕ) → Bytes bytes → highNumber bytes < 256 ^ length bytes
@@ -56,9 +56,9 @@ high-bytes-of-number [] all = refl
 high-bytes-of-number (byte ∷ rest) all =
     let later : highNumber rest < 256 ^ length rest = high-number-below rest (λ place. all (suc place)) in
     let first : (byte * 256 ^ length rest + highNumber rest) / 256 ^ length rest % 256 ≡ byte =
-        ap (λ (n : ℕ). n % 256) (mul-add-div-right (power-positive (length rest)) byte (highNumber rest))
-        ∙ ap (λ (n : ℕ). (byte + n) % 256) (div-eq-of-lt later)
-        ∙ omega (arith, all zero) in
+    ap (λ (n : ℕ). n % 256) (mul-add-div-right (power-positive (length rest)) byte (highNumber rest))
+    ∙ ap (λ (n : ℕ). (byte + n) % 256) (div-eq-of-lt later)
+    ∙ omega (arith, all zero) in
     rw (first, high-bytes-above (length rest) byte (highNumber rest), high-bytes-of-number rest (λ place. all (suc place)))
 
 -- ---- both orders

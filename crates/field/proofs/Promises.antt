@@ -3,15 +3,13 @@
 use Prim.{tt}
 use mathlib.Core.Path.{_≡_, refl, ap, sym, _∙_}
 use mathlib.Core.List.{List}
-use Prim.Native.Nat.{ℕ, _+_, _<_, _≤_}
+use Prim.Native.Nat.{ℕ, _+_, _≤_}
 use lib.ListN.{length}
 use Rattle.refusal.specs.Number.{numberOf}
-use Rattle.refusal.specs.Answer.{accepted, refused, left, passed}
+use Rattle.refusal.specs.Answer.{accepted, left, passed}
 use Rattle.refusal.proofs.Laws.{not-both, answer-past, change-past, refused-as-found}
 use Rattle.refusal.proofs.Told.{numbers-differ}
-use Rattle.field.specs.declared.Loaded.{Loaded}
 use Rattle.field.specs.declared.Loaded.the-variants.{Key, Refused}
-use Rattle.field.specs.Layout.{Bytes}
 use Rattle.field.specs.Field.{fieldAt, stored, orderOf, fieldTests, loadOf, storeOf}
 use Rattle.field.specs.Claims.{StoreThenLoad, LoadThenStore, RefusedStoreLeaves, LoadedDiffer}
 use Rattle.field.proofs.Fields.{store-touches-no-other, stored-is-held, held-is-stored}

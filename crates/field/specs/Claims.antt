@@ -1,5 +1,4 @@
 -- What is proved of the number layout and of fields: for every width and both orders, and of the two entry points.
-use Prim.{Unit, tt}
 use mathlib.Core.Path.{_≡_}
 use mathlib.Core.List.{List}
 use mathlib.Core.Logic.{_⊎_}

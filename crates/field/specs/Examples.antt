@@ -1,7 +1,7 @@
 -- Examples that the checker computes on the definitions: E1 of document 01, the trade's first slip, and where a field ends.
 use mathlib.Core.Path.{_≡_}
 use mathlib.Core.List.{List, [], _∷_}
-use Prim.Native.Nat.{ℕ, _+_}
+use Prim.Native.Nat.{ℕ}
 use Rattle.refusal.specs.Answer.{accepted, refused, left, passed}
 use Rattle.field.specs.Field.{loadOf, storeOf}
 

@@ -1,6 +1,6 @@
 -- Fields of a lent record: where they stand, what is refused, what a load answers and a store leaves (document 01, "Key fields" and "Refusal numbers").
-use Prim.{Unit, tt}
-use mathlib.Core.Bool.{Bool, true, false}
+use Prim.{Unit}
+use mathlib.Core.Bool.{Bool}
 use mathlib.Core.List.{List, [], _∷_, _++_}
 use Prim.Native.Nat.{ℕ, zero, suc, _+_}
 use lib.Dec.{ltb}

@@ -21,7 +21,7 @@ pub enum Loaded {
 }
 
 // The four bytes of a field, as they stand.
-pub struct Four(pub u8, pub u8, pub u8, pub u8);
+struct Four(u8, u8, u8, u8);
 
 // The number of four bytes, the high byte first.
 fn join(four: Four) -> u32
@@ -57,7 +57,12 @@ fn four_at(bytes: &[u8], place: usize) -> Four
     requires { ⌜ place + 4 ≤ length (now bytes) ⌝ }
     ensures { λ r. ⌜ fourBytes r ≡ bytesAt 4 (now (bytes .entry)) place ⌝ }
 {
-    Four(bytes[place], bytes[place + 1], bytes[place + 2], bytes[place + 3])
+    Four(
+        bytes[place],
+        bytes[place + 1],
+        bytes[place + 2],
+        bytes[place + 3],
+    )
 }
 
 // One byte written at a place, and no other.

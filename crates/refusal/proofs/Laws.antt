@@ -4,7 +4,7 @@ use mathlib.Core.Path.{_≡_, refl, sym}
 use mathlib.Core.Bool.{Bool, true, false}
 use Prim.Native.Nat.{ℕ}
 use native.Mathlib.Omega.{arith}
-use Rattle.refusal.specs.Answer.{Answer, accepted, refused, Left, left, Tests, passed, refusing, answering, leaving}
+use Rattle.refusal.specs.Answer.{accepted, refused, Left, left, Tests, passed, refusing, answering, leaving}
 
 -- nothing is both accepted and refused
 pub not-both : {A : Type 0} {value : A} {number : ℕ} → accepted value ≡ refused number → ⊥

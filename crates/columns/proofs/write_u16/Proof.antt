@@ -6,20 +6,8 @@ use Rattle.columns.proofs.Laws.{writes-nothing-past}
 use Rattle.columns.proofs.write_u16.Statement.{statement}
 use Rattle.columns.proofs.write_u16.Tie as tie
 
-mul-column : tie.Need-mul-column
-mul-column c = search needs
-
-slice-write-column : tie.Need-slice-write-column
-slice-write-column c = search needs
-
-same-length : tie.Need-same-length
-same-length c = search needs
-
-returns : tie.Need-returns
-returns c = search needs
-
-returns-2 : tie.Need-returns-2
-returns-2 c = sym (writes-nothing-past _ _ _ (c .if1 .left))
+past-the-end : tie.Need-returns-2
+past-the-end c = sym (writes-nothing-past _ _ _ (c .if1 .left))
 
 pub write-u16-spec : {M : Type 1} → statement M
-write-u16-spec = tie.close (tie.spec mul-column slice-write-column same-length returns returns-2)
+write-u16-spec = tie.close (tie.spec (λ c. search needs) (λ c. search needs) (λ c. search needs) (λ c. search needs) past-the-end)

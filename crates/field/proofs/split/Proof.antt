@@ -1,28 +1,22 @@
-use native.Mathlib.Omega.{arith}
-use Prim.Native.Nat.{_/_, _%_}
+-- `field::split` gives the four remainders that its shifts and masks stand for.
+-- Assumes nothing.
+use Prim.Native.Nat.{_/_}
 use Rattle.field.proofs.Laws.{low-byte, low-byte-fits}
 use Rattle.field.proofs.split.Statement.{statement}
 use Rattle.field.proofs.split.Tie as tie
-use Rattle.field.proofs.split.Reads as reads
-use Rattle.field.proofs.split.Lts as lts
 
--- src/lib.rt:38:9
 cast-t4 : tie.Need-cast-t4
 cast-t4 c = low-byte-fits (c .args .key / 16777216)
 
--- src/lib.rt:39:9
 cast-t7 : tie.Need-cast-t7
 cast-t7 c = low-byte-fits (c .args .key / 65536)
 
--- src/lib.rt:40:9
 cast-t10 : tie.Need-cast-t10
 cast-t10 c = low-byte-fits (c .args .key / 256)
 
--- src/lib.rt:41:9
 cast-t12 : tie.Need-cast-t12
 cast-t12 c = low-byte-fits (c .args .key)
 
--- src/lib.rt:34:1
 returns : tie.Need-returns
 returns c = let k = c .args .key in (low-byte (k / 16777216), low-byte (k / 65536), low-byte (k / 256), low-byte k)
 

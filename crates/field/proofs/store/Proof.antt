@@ -15,10 +15,12 @@ put-key-requires c κs =
 
 returns : tie.Need-returns
 returns c =
-    let a = c .before .before .before .before .before .before .before .before .before .args in
+    let put = c .before .before in
+    let matched = put .before .before .before in
+    let tested = matched .before .before in
+    let a = tested .before .before .args in
     store-accepts (a .bytes .now) (a .place) (a .code) (a .key)
-    (tests-told (c .before .before .before .before .before .before .before .field-verdict .ensures) (c .before .before .before .before .before .enum-told .given .1))
-    (c .before .before .before .order-of .ensures) (c .before .before .put-key .ensures)
+    (tests-told (tested .field-verdict .ensures) (matched .enum-told .given .1)) (put .before .order-of .ensures) (put .put-key .ensures)
 
 returns-2 : tie.Need-returns-2
 returns-2 c =
