@@ -8,7 +8,7 @@ use Rattle.outcome.specs.Outcome.{OneOutcome, by-equation}
 use Rattle.refusal.specs.declared.Verdict.{Verdict}
 use Rattle.refusal.specs.Answer.{Left}
 use Rattle.refusal.proofs.Told.{verdicts-differ}
-use Rattle.field.specs.Field.{storeLeaves}
+use Rattle.field.specs.Readings.{storeLeaves}
 use Rattle.field.proofs.Promises.{loaded-differ}
 use Rattle.field.proofs.load.Reads as load
 use Rattle.field.proofs.store.Reads as store

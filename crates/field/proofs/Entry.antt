@@ -13,29 +13,30 @@ use Rattle.refusal.proofs.Laws.{past-test}
 use Rattle.field.specs.declared.ByteOrder.{ByteOrder}
 use Rattle.field.specs.declared.Four.{Four}
 use Rattle.field.specs.Layout.{highNumber, highBytes, turned, numberIn, bytesIn}
-use Rattle.field.specs.Field.{bytesAt, putBytes, fieldAt, stored, orderOf, badOrder, notInside, fieldTests, loadOf, storeOf, fourBytes}
+use Rattle.field.specs.Field.{bytesAt, putBytes, fieldAt, stored, orderOf, noSuchOrder, runsPast, fieldTests, loadOf, storeOf}
+use Rattle.field.specs.Readings.{fourBytes}
 
 -- ---- the tests, in their order
 
-module _ (long place code : ℕ) where
-  pub tests-refuse-11 : badOrder code ≡ true → refused 11 ≡ fieldTests long place code
+module _ (len place code : ℕ) where
+  pub tests-refuse-11 : noSuchOrder code ≡ true → refused 11 ≡ fieldTests len place code
   unfolding fieldTests
   tests-refuse-11 no-order = rw no-order
 
-  pub tests-refuse-10 : badOrder code ≡ false → notInside long place ≡ true → refused 10 ≡ fieldTests long place code
+  pub tests-refuse-10 : noSuchOrder code ≡ false → runsPast len place ≡ true → refused 10 ≡ fieldTests len place code
   unfolding fieldTests
   tests-refuse-10 order past-the-end = rw (order, past-the-end)
 
-  pub tests-pass : badOrder code ≡ false → notInside long place ≡ false → passed ≡ fieldTests long place code
+  pub tests-pass : noSuchOrder code ≡ false → runsPast len place ≡ false → passed ≡ fieldTests len place code
   unfolding fieldTests
   tests-pass order inside = rw (order, inside)
 
 -- a field that passes them lies inside its record
-pub is-inside : (long place code : ℕ) → fieldTests long place code ≡ passed → place + 4 ≤ long
+pub is-inside : (len place code : ℕ) → fieldTests len place code ≡ passed → place + 4 ≤ len
 unfolding fieldTests
-is-inside long place code passes =
-    let past-order : refusing (notInside long place) 10 passed ≡ passed = past-test (badOrder code) 11 (refusing (notInside long place) 10 passed) passes .1 in
-    ltb-false long (place + 4) (past-test (notInside long place) 10 passed past-order .0)
+is-inside len place code passes =
+    let past-order : refusing (runsPast len place) 10 passed ≡ passed = past-test (noSuchOrder code) 11 (refusing (runsPast len place) 10 passed) passes .1 in
+    ltb-false len (place + 4) (past-test (runsPast len place) 10 passed past-order .0)
 
 -- ---- a load
 

@@ -13,7 +13,7 @@ use lib.Seq.{getD-drop, sets-eq}
 use borrow.Author.Tests.{lt-ltb, le-ltb}
 use mir.Syntax.{w8}
 use mir.Val.{Fits}
-use Rattle.field.specs.Field.{bytesAt, putBytes, orderOf, notInside}
+use Rattle.field.specs.Field.{bytesAt, putBytes, orderOf, runsPast}
 use Rattle.field.specs.declared.ByteOrder.the-variants.{LowFirst}
 
 -- ---- shifts and masks
@@ -47,11 +47,11 @@ low-byte-fits number = record { fits = omega (arith, low-byte number) }
 
 -- ---- the tests
 
-pub outside : (long place : ℕ) → long < place + 4 → true ≡ notInside long place
-outside long place past = sym (lt-ltb long (place + 4) past)
+pub runs-past : (len place : ℕ) → len < place + 4 → true ≡ runsPast len place
+runs-past len place past = sym (lt-ltb len (place + 4) past)
 
-pub inside : (long place : ℕ) → place + 4 ≤ long → false ≡ notInside long place
-inside long place within = sym (le-ltb long (place + 4) within)
+pub inside : (len place : ℕ) → place + 4 ≤ len → false ≡ runsPast len place
+inside len place within = sym (le-ltb len (place + 4) within)
 
 pub low-first : (code : ℕ) → (code ≡ 0 → ⊥) → LowFirst ≡ orderOf code
 low-first zero differs = absurd (differs refl)

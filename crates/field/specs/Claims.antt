@@ -8,7 +8,8 @@ use Rattle.refusal.specs.Answer.{accepted, refused, left, passed}
 use Rattle.field.specs.declared.ByteOrder.{ByteOrder}
 use Rattle.field.specs.declared.Loaded.{Loaded}
 use Rattle.field.specs.Layout.{numberIn, bytesIn, Bytes}
-use Rattle.field.specs.Field.{fieldAt, stored, loadOf, storeOf, loadedIs}
+use Rattle.field.specs.Field.{fieldAt, stored, orderOf, loadOf, storeOf}
+use Rattle.field.specs.Readings.{loadedIs}
 
 -- the number of the bytes of a number is the number
 abbrev pub NumberOfItsBytes : Type 0
@@ -41,6 +42,23 @@ HeldIsStored =
     (order : ByteOrder) (width : ℕ) (bytes : List ℕ) (place : ℕ) → Bytes bytes → place + width ≤ length bytes →
     stored order width bytes place (fieldAt order width bytes place) ≡ bytes
 
+-- A load is refused with 11 exactly when the order code is not 0 or 1, with 10 exactly when it is and the field is not wholly inside its record,
+-- and else answers what the field holds.
+abbrev pub LoadsExactly : Type 0
+LoadsExactly =
+    (bytes : List ℕ) (place code : ℕ) →
+    (1 < code → loadOf bytes place code ≡ refused 11)
+    × (code ≤ 1 → length bytes < place + 4 → loadOf bytes place code ≡ refused 10)
+    × (code ≤ 1 → place + 4 ≤ length bytes → loadOf bytes place code ≡ accepted (fieldAt (orderOf code) 4 bytes place))
+
+-- a store likewise; refused, it leaves the record as found
+abbrev pub StoresExactly : Type 0
+StoresExactly =
+    (bytes : List ℕ) (place code key : ℕ) →
+    (1 < code → storeOf bytes place code key ≡ left bytes (refused 11))
+    × (code ≤ 1 → length bytes < place + 4 → storeOf bytes place code key ≡ left bytes (refused 10))
+    × (code ≤ 1 → place + 4 ≤ length bytes → storeOf bytes place code key ≡ left (stored (orderOf code) 4 bytes place key) passed)
+
 -- a store that is accepted, then a load: the key
 abbrev pub StoreThenLoad : Type 0
 StoreThenLoad =
@@ -52,12 +70,6 @@ abbrev pub LoadThenStore : Type 0
 LoadThenStore =
     (bytes : List ℕ) (place code key : ℕ) → Bytes bytes → loadOf bytes place code ≡ accepted key →
     storeOf bytes place code key ≡ left bytes passed
-
--- a store that is refused leaves the record as found
-abbrev pub RefusedStoreLeaves : Type 0
-RefusedStoreLeaves =
-    (bytes : List ℕ) (place code key number : ℕ) → storeOf bytes place code key .answer ≡ refused number →
-    storeOf bytes place code key .memory ≡ bytes
 
 -- two answers to a load that read the same in the document's terms are the same
 abbrev pub LoadedDiffer : Type 0

@@ -1,18 +1,13 @@
 -- Fields of a lent record: where they stand, what is refused, what a load answers and a store leaves (document 01, "Key fields" and "Refusal numbers").
 use Prim.{Unit}
 use mathlib.Core.Bool.{Bool}
-use mathlib.Core.List.{List, [], _∷_, _++_}
+use mathlib.Core.List.{List, _++_}
 use Prim.Native.Nat.{ℕ, zero, suc, _+_}
 use lib.Dec.{ltb}
 use lib.ListN.{length, take, drop}
-use Rattle.refusal.specs.Number.{numberOf}
-use Rattle.refusal.specs.Answer.{Answer, accepted, refused, Left, left, Tests, passed, refusing, answering, leaving, verdictIs}
-use Rattle.refusal.specs.declared.Verdict.{Verdict}
-use Rattle.field.specs.declared.Four.{Four}
+use Rattle.refusal.specs.Answer.{Answer, accepted, Left, left, Tests, passed, refusing, answering, leaving}
 use Rattle.field.specs.declared.ByteOrder.{ByteOrder}
 use Rattle.field.specs.declared.ByteOrder.the-variants.{HighFirst, LowFirst}
-use Rattle.field.specs.declared.Loaded.{Loaded}
-use Rattle.field.specs.declared.Loaded.the-variants.{Key, Refused}
 use Rattle.field.specs.Layout.{numberIn, bytesIn}
 
 -- the bytes of a record from a place on, as many as the width says
@@ -37,16 +32,16 @@ orderOf zero = HighFirst
 orderOf (suc code) = LowFirst
 
 -- 11: the order code is not 0 or 1
-abbrev pub badOrder : ℕ → Bool
-badOrder code = ltb 1 code
+abbrev pub noSuchOrder : ℕ → Bool
+noSuchOrder code = ltb 1 code
 
--- 10: the field is not wholly inside a record of this length
-abbrev pub notInside : ℕ → ℕ → Bool
-notInside long place = ltb long (place + 4)
+-- 10: the field is not wholly inside its record, which has this length
+abbrev pub runsPast : ℕ → ℕ → Bool
+runsPast len place = ltb len (place + 4)
 
 -- fields are tested for 11, then 10
 unfoldable pub fieldTests : ℕ → ℕ → ℕ → Tests
-fieldTests long place code = refusing (badOrder code) 11 (refusing (notInside long place) 10 passed)
+fieldTests len place code = refusing (noSuchOrder code) 11 (refusing (runsPast len place) 10 passed)
 
 -- a load answers the key that the four bytes stand for in the named order
 unfoldable pub loadOf : List ℕ → ℕ → ℕ → Answer ℕ
@@ -56,16 +51,3 @@ loadOf bytes place code = answering (fieldTests (length bytes) place code) (acce
 unfoldable pub storeOf : List ℕ → ℕ → ℕ → ℕ → Left (List ℕ) (Unit {0})
 storeOf bytes place code key =
     leaving (fieldTests (length bytes) place code) bytes (left (stored (orderOf code) 4 bytes place key) passed)
-
--- the code's four bytes as a list
-abbrev pub fourBytes : Four → List ℕ
-fourBytes four = four .0 ∷ four .1 ∷ four .2 ∷ four .3 ∷ []
-
--- what the code's store leaves, in the document's terms
-abbrev pub storeLeaves : List ℕ → Verdict → Left (List ℕ) (Unit {0})
-storeLeaves bytes answer = left bytes (verdictIs answer)
-
--- the code's answer to a load in the document's terms
-abbrev pub loadedIs : Loaded → Answer ℕ
-loadedIs (Key key) = accepted key
-loadedIs (Refused why) = refused (numberOf why)

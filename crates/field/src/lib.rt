@@ -6,7 +6,8 @@ ghost use Prim.Native.Nat.{_+_, _*_, _/_, _%_, _<_, _≤_};
 ghost use lib.ListN.{length, set};
 ghost use Rattle.refusal.specs.Answer.{verdictIs};
 ghost use Rattle.field.specs.Layout.{turned};
-ghost use Rattle.field.specs.Field.{fourBytes, bytesAt, putBytes, fieldAt, stored, orderOf, notInside, fieldTests, loadedIs, loadOf, storeLeaves, storeOf};
+ghost use Rattle.field.specs.Field.{bytesAt, putBytes, fieldAt, stored, orderOf, runsPast, fieldTests, loadOf, storeOf};
+ghost use Rattle.field.specs.Readings.{loadedIs, storeLeaves, fourBytes};
 
 // Which byte of a number stands first.
 pub enum ByteOrder {
@@ -94,29 +95,29 @@ fn order_of(code: u32) -> ByteOrder
     }
 }
 
-// Whether a field at a place runs past a record of this length. The length is taken down, so that no sum can wrap.
-fn is_outside(long: usize, place: usize) -> bool
-    ensures { λ r. ⌜ r ≡ notInside long place ⌝ }
+// Whether a field at a place runs past the end of a record of this length. The length is taken down, so that no sum can wrap.
+fn runs_past(len: usize, place: usize) -> bool
+    ensures { λ r. ⌜ r ≡ runsPast len place ⌝ }
 {
-    if long < 4 {
+    if len < 4 {
         return true;
     }
-    if long - 4 < place {
+    if len - 4 < place {
         return true;
     }
     false
 }
 
 // The tests of both entry points, in their order: 11, then 10.
-fn field_verdict(long: usize, place: usize, code: u32) -> Verdict
-    ensures { λ r. ⌜ verdictIs r ≡ fieldTests long place code ⌝ }
+fn field_verdict(len: usize, place: usize, code: u32) -> Verdict
+    ensures { λ r. ⌜ verdictIs r ≡ fieldTests len place code ⌝ }
 {
-    let no_order = 1 < code;
-    let outside = is_outside(long, place);
-    if no_order {
+    let no_such_order = 1 < code;
+    let not_inside = runs_past(len, place);
+    if no_such_order {
         return Verdict::Refused(Refusal::NoSuchOrder);
     }
-    if outside {
+    if not_inside {
         return Verdict::Refused(Refusal::NoRoom);
     }
     Verdict::Accepted
