@@ -1,4 +1,4 @@
--- Fields of a record for every width: what a store leaves, store then load, load then store; then the two entry points.
+-- Fields of a record for every width: what a store leaves, store then load, load then store.
 -- Assumes nothing.
 use mathlib.Core.Path.{_≡_, refl, ap, sym, _∙_}
 use mathlib.Core.Logic.{_⊎_, ⊎-elim}
@@ -45,7 +45,7 @@ module _ (bytes : List ℕ) (place : ℕ) (new : List ℕ) (inside : place + len
 
 -- ---- the bytes that stand at a place
 
-pub long-at : (bytes : List ℕ) (place width : ℕ) → place + width ≤ length bytes → length (bytesAt width bytes place) ≡ width
+long-at : (bytes : List ℕ) (place width : ℕ) → place + width ≤ length bytes → length (bytesAt width bytes place) ≡ width
 long-at bytes place width inside = length-take-le width (drop place bytes) (rw length-drop (omega arith))
 
 -- putting them back changes nothing

@@ -38,7 +38,6 @@ high-number-mod (suc width) number =
 high-bytes-above : (width above number : ℕ) → highBytes width (above * 256 ^ width + number) ≡ highBytes width number
 high-bytes-above zero above number = refl
 high-bytes-above (suc width) above number =
-    let power : ℕ = 256 ^ width in
     let regroup : above * 256 ^ suc width + number ≡ above * 256 * 256 ^ width + number = omega (arith, pow-suc 256 width, ap (λ (n : ℕ). above * n) (pow-suc 256 width)) in
     let first : (above * 256 * 256 ^ width + number) / 256 ^ width % 256 ≡ number / 256 ^ width % 256 =
     ap (λ (n : ℕ). n % 256) (mul-add-div-right (power-positive width) (above * 256) number) ∙ mul-add-mod-self-right above 256 (number / 256 ^ width) in
@@ -63,7 +62,7 @@ high-bytes-of-number (byte ∷ rest) all =
 
 -- ---- both orders
 
-pub long-turned : (order : ByteOrder) (bytes : List ℕ) → length (turned order bytes) ≡ length bytes
+long-turned : (order : ByteOrder) (bytes : List ℕ) → length (turned order bytes) ≡ length bytes
 long-turned HighFirst bytes = refl
 long-turned LowFirst bytes = length-reverse bytes
 
