@@ -42,8 +42,8 @@ HeldIsStored =
     (order : ByteOrder) (width : ℕ) (bytes : List ℕ) (place : ℕ) → Bytes bytes → place + width ≤ length bytes →
     stored order width bytes place (fieldAt order width bytes place) ≡ bytes
 
--- A load is refused with 11 exactly when the order code is not 0 or 1, with 10 exactly when it is and the field is not wholly inside its record,
--- and else answers what the field holds.
+-- When a load is refused, and with what. The three cases leave none out and their answers differ, so each is given exactly in its case:
+-- 11 where the code names no order; else 10 where the field runs past the end; else the key that the field holds.
 abbrev pub LoadsExactly : Type 0
 LoadsExactly =
     (bytes : List ℕ) (place code : ℕ) →
@@ -51,7 +51,7 @@ LoadsExactly =
     × (code ≤ 1 → length bytes < place + 4 → loadOf bytes place code ≡ refused 10)
     × (code ≤ 1 → place + 4 ≤ length bytes → loadOf bytes place code ≡ accepted (fieldAt (orderOf code) 4 bytes place))
 
--- a store likewise; refused, it leaves the record as found
+-- a store in the same three cases; refused, it leaves the record as found
 abbrev pub StoresExactly : Type 0
 StoresExactly =
     (bytes : List ℕ) (place code key : ℕ) →

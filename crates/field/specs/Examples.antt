@@ -5,7 +5,7 @@ use Prim.Native.Nat.{ℕ}
 use Rattle.refusal.specs.Answer.{accepted, refused, left, passed}
 use Rattle.field.specs.Field.{loadOf, storeOf}
 
--- E1: bytes 00 01 00 00 are 256 low first and 65,536 high first
+-- E1: one field, the bytes 00 01 00 00, in each of the two orders
 abbrev pub E1 : Type 0
 E1 = (loadOf (0 ∷ 1 ∷ 0 ∷ 0 ∷ []) 0 1 ≡ accepted 256) × (loadOf (0 ∷ 1 ∷ 0 ∷ 0 ∷ []) 0 0 ≡ accepted 65536)
 
@@ -14,7 +14,7 @@ abbrev pub threeLowFirst : List ℕ
 threeLowFirst =
     storeOf (storeOf (storeOf (0 ∷ 0 ∷ 0 ∷ 0 ∷ 0 ∷ 0 ∷ 0 ∷ 0 ∷ 0 ∷ 0 ∷ 0 ∷ 0 ∷ []) 0 1 1 .memory) 4 1 2 .memory) 8 1 256 .memory
 
--- The slip: loaded high first they are 16,777,216, 33,554,432 and 65,536, and the last looks out of order.
+-- The slip: loaded in the wrong order, the third key seems to belong before the other two.
 abbrev pub FirstSlip : Type 0
 FirstSlip =
     (loadOf threeLowFirst 0 0 ≡ accepted 16777216)
@@ -25,7 +25,7 @@ FirstSlip =
 abbrev pub NoSlip : Type 0
 NoSlip = (loadOf threeLowFirst 0 1 ≡ accepted 1) × (loadOf threeLowFirst 4 1 ≡ accepted 2) × (loadOf threeLowFirst 8 1 ≡ accepted 256)
 
--- The last four bytes pass and one byte further does not; nor does any place of an empty record, nor one near the largest number that the code can be given.
+-- A field may end where its record ends and not a byte later; an empty record has none, and a place near the largest number is as far out as any.
 abbrev pub FieldEnds : Type 0
 FieldEnds =
     (loadOf (9 ∷ 0 ∷ 0 ∷ 0 ∷ 7 ∷ []) 1 0 ≡ accepted 7)

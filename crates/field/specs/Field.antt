@@ -26,16 +26,16 @@ fieldAt order width bytes place = numberIn order (bytesAt width bytes place)
 unfoldable pub stored : ByteOrder → ℕ → List ℕ → ℕ → ℕ → List ℕ
 stored order width bytes place number = putBytes bytes place (bytesIn order width number)
 
--- Order code 0 is high first, 1 low first. (No other code gets past the tests.)
+-- Code 0 names the order with the high byte first, code 1 the one with the low byte first. (No other code gets past the tests.)
 abbrev pub orderOf : ℕ → ByteOrder
 orderOf zero = HighFirst
 orderOf (suc code) = LowFirst
 
--- 11: the order code is not 0 or 1
+-- 11: the code names neither order
 abbrev pub noSuchOrder : ℕ → Bool
 noSuchOrder code = ltb 1 code
 
--- 10: the field is not wholly inside its record, which has this length
+-- 10: part of the field, or all of it, lies past the end of its record, which has this length
 abbrev pub runsPast : ℕ → ℕ → Bool
 runsPast len place = ltb len (place + 4)
 
@@ -47,7 +47,7 @@ fieldTests len place code = refusing (noSuchOrder code) 11 (refusing (runsPast l
 unfoldable pub loadOf : List ℕ → ℕ → ℕ → Answer ℕ
 loadOf bytes place code = answering (fieldTests (length bytes) place code) (accepted (fieldAt (orderOf code) 4 bytes place))
 
--- a store writes those four bytes and no other
+-- a store puts the key's four bytes into the field and changes nothing else
 unfoldable pub storeOf : List ℕ → ℕ → ℕ → ℕ → Left (List ℕ) (Unit {0})
 storeOf bytes place code key =
     leaving (fieldTests (length bytes) place code) bytes (left (stored (orderOf code) 4 bytes place key) passed)

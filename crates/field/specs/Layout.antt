@@ -15,7 +15,7 @@ abbrev pub highBytes : ℕ → ℕ → List ℕ
 highBytes zero number = []
 highBytes (suc width) number = number / 256 ^ width % 256 ∷ highBytes width number
 
--- Low byte first is the reverse.
+-- In the other order, low byte first, the same bytes stand the other way round.
 abbrev pub turned : ByteOrder → List ℕ → List ℕ
 turned HighFirst bytes = bytes
 turned LowFirst bytes = reverse bytes

@@ -43,7 +43,7 @@ fn split(key: u32) -> Four
     )
 }
 
-// Four bytes turned from high first to the order, or back: low first is the reverse.
+// Four bytes turned from high first to the order, or back.
 fn turn(order: ByteOrder, four: Four) -> Four
     ensures { λ r. ⌜ fourBytes r ≡ turned order (fourBytes four) ⌝ }
 {

@@ -22,7 +22,7 @@ pub enum Refusal {
     PartyIdle,
     // 9: a move after 16,777,216 moves.
     MovesSpent,
-    // 10: a field that is not wholly inside its record, or a listing with fewer places than live keys.
+    // 10: a field that sticks out of its record, or a listing that is lent too few places for the live keys.
     NoRoom,
     // 11: an order code other than 0 and 1.
     NoSuchOrder,
