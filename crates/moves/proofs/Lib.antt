@@ -1,2 +1,3 @@
 -- The laws that the proofs of the moves cite.
 pub mod Laws
+pub mod Whole

@@ -1,6 +1,3 @@
--- What the moves mean: the table, the order of rows, the parties and the state, one definition for each place.
-pub mod Table
-pub mod Order
-pub mod Party
-pub mod Writes
+-- What the moves are: one definition for each place, the bare call and the bare move.
 pub mod Moves
+pub mod Bare

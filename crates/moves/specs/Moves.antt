@@ -2,20 +2,20 @@
 use mathlib.Core.Bool.{Bool, true, false, not, cond, _&&_}
 use Prim.Native.Nat.{ℕ}
 use lib.Dec.{eqb}
-use Rattle.moves.specs.declared.party.Call.{Call}
-use Rattle.moves.specs.declared.party.Call.the-variants.{Add, Remove, Contains}
-use Rattle.moves.specs.declared.party.Place.{Place}
-use Rattle.moves.specs.declared.party.Place.the-variants.{Idle, Walk, Skip, AddSwap, Mark, Reread, Clean, Back, Look}
-use Rattle.moves.specs.declared.party.Party.{Party}
-use Rattle.moves.specs.declared.party.Access.the-variants.{None, Read, Won, Lost}
-use Rattle.moves.specs.declared.table.Write.{Write}
-use Rattle.moves.specs.declared.table.Write.the-variants.{Keep, Link, Splice}
+use Rattle.party.specs.declared.Call.{Call}
+use Rattle.party.specs.declared.Call.the-variants.{Add, Remove, Contains}
+use Rattle.party.specs.declared.Place.{Place}
+use Rattle.party.specs.declared.Place.the-variants.{Idle, Walk, Skip, AddSwap, Mark, Reread, Clean, Back, Look}
+use Rattle.party.specs.declared.Party.{Party}
+use Rattle.party.specs.declared.Access.the-variants.{None, Read, Won, Lost}
+use Rattle.rows.specs.declared.Write.{Write}
+use Rattle.rows.specs.declared.Write.the-variants.{Keep, Link, Splice}
 use Rattle.moves.specs.declared.places.Said.{Said}
 use Rattle.moves.specs.declared.places.Said.the-variants.{Nothing, Yes, No}
 use Rattle.moves.specs.declared.places.Moved.{Moved}
-use Rattle.moves.specs.Table.{Table, nextAt, backAt, isSplice}
-use Rattle.moves.specs.Order.{belowKey, equalsKey}
-use Rattle.moves.specs.Party.{idling, published, walking, skipping, adding, marking, rereading, cleaning, backing, looking}
+use Rattle.rows.specs.Table.{Table, nextAt, backAt, isSplice}
+use Rattle.rows.specs.Order.{belowKey, equalsKey}
+use Rattle.party.specs.Party.{idling, published, walking, skipping, adding, marking, rereading, cleaning, backing, looking}
 
 -- ---- what a move comes to: the party after it, what is said, what came of the access, what is written
 

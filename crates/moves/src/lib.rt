@@ -1,6 +1,3 @@
-// The moves of the list: rows and their order, parties and the state, the bare call and the bare move.
+// The moves of the list: one function for each place, the bare call and the bare move.
 pub mod bare;
-pub mod party;
 pub mod places;
-pub mod row;
-pub mod table;

@@ -1,13 +1,13 @@
 // The moves, one function for each place: what the party does with the access that it makes there.
-use crate::party::Access;
-use crate::party::Call;
-use crate::party::Party;
-use crate::party::Place;
-use crate::row::Row;
-use crate::table::Write;
+use party::Access;
+use party::Call;
+use party::Party;
+use party::Place;
+use rows::Row;
+use rows::Write;
 use columns::read_u16;
 ghost use mathlib.Core.Path.{_≡_};
-ghost use Rattle.moves.specs.Table.{tab};
+ghost use Rattle.rows.specs.Table.{tab};
 ghost use Rattle.moves.specs.Moves.{
   reads,
   answers,

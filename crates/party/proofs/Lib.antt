@@ -1,0 +1,2 @@
+-- The law that the proofs of the party table cite.
+pub mod Laws

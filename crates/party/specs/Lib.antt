@@ -1,0 +1,2 @@
+-- What a party record and the state are.
+pub mod Party
