@@ -8,7 +8,7 @@ use borrow.Author.Tests.{eq-eqb, ne-eqb}
 use Rattle.party.specs.declared.Place.{Place}
 use Rattle.party.specs.declared.Party.{Party}
 use Rattle.rows.specs.Table.{Table}
-use Rattle.moves.specs.declared.places.Moved.{Moved}
+use Rattle.moves.specs.declared.Moved.{Moved}
 use Rattle.moves.specs.Moves.{placeOf}
 
 -- ---- tests: what was read, and what the test found, tell the test of the definition

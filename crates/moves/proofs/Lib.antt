@@ -1,3 +1,2 @@
 -- The laws that the proofs of the moves cite.
 pub mod Laws
-pub mod Whole

@@ -1,3 +1,2 @@
--- What the moves are: one definition for each place, the bare call and the bare move.
+-- What the moves are: one definition for each place.
 pub mod Moves
-pub mod Bare

@@ -10,9 +10,9 @@ use Rattle.party.specs.declared.Party.{Party}
 use Rattle.party.specs.declared.Access.the-variants.{None, Read, Won, Lost}
 use Rattle.rows.specs.declared.Write.{Write}
 use Rattle.rows.specs.declared.Write.the-variants.{Keep, Link, Splice}
-use Rattle.moves.specs.declared.places.Said.{Said}
-use Rattle.moves.specs.declared.places.Said.the-variants.{Nothing, Yes, No}
-use Rattle.moves.specs.declared.places.Moved.{Moved}
+use Rattle.moves.specs.declared.Said.{Said}
+use Rattle.moves.specs.declared.Said.the-variants.{Nothing, Yes, No}
+use Rattle.moves.specs.declared.Moved.{Moved}
 use Rattle.rows.specs.Table.{Table, nextAt, backAt, isSplice}
 use Rattle.rows.specs.Order.{belowKey, equalsKey}
 use Rattle.party.specs.Party.{idling, published, walking, skipping, adding, marking, rereading, cleaning, backing, looking}

@@ -1,0 +1,12 @@
+-- `call` starts the call of the party.
+-- Assumes nothing.
+use Rattle.bare.proofs.Laws.{a-call}
+use borrow.Author.Needs.{needs}
+use Rattle.bare.proofs.call.Statement.{statement}
+use Rattle.bare.proofs.call.Tie as tie
+
+returns : tie.Need-returns
+returns c = a-call _ _ _ _ _ (c .before .before .before .before .before .before .before .before .before .before .before .before .before .before .before .before .before .party-at .ensures) (c .before .before .before .before .before .before .before .before .before .before .before .before .before .before .before .before .begin .ensures) (c .before .before .before .before .before .before .before .before .before .before .apply .ensures) (c .before .with-party .ensures) (c .with-taken .ensures)
+
+pub call-spec : {M : Type 1} → statement M
+call-spec = tie.close (tie.spec (λ c κs. search needs) (λ c κs. search needs) (λ c κs. search needs) (λ c κs. search needs) (λ c κs. search needs) (λ c. search needs) (λ c. search needs) (λ c. search needs) (λ c. search needs) returns)

@@ -1,0 +1,2 @@
+-- What the bare call and the bare move are.
+pub mod Bare
