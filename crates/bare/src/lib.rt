@@ -30,14 +30,22 @@ pub struct Done {
 pub fn own_row(state: State, party: Party) -> u16
     ensures { λ r. ⌜ r ≡ ownRow state party ⌝ }
 {
-    if party.unpublished { party.own } else { state.taken }
+    if party.unpublished {
+        party.own
+    } else {
+        state.taken
+    }
 }
 
 // How many rows are then taken.
 pub fn taken_then(state: State, party: Party) -> u16
     ensures { λ r. ⌜ r ≡ takenThen state party ⌝ }
 {
-    if party.unpublished { state.taken } else { one_taken(state.taken) }
+    if party.unpublished {
+        state.taken
+    } else {
+        one_taken(state.taken)
+    }
 }
 
 // An ADD or a REMOVE starts.

@@ -1,11 +1,11 @@
 // The moves, one function for each place: what a party does with the one access that it makes there.
+use columns::read_u16;
 use party::Access;
 use party::Call;
 use party::Party;
 use party::Place;
 use rows::Row;
 use rows::Write;
-use columns::read_u16;
 ghost use mathlib.Core.Path.{_≡_};
 ghost use Rattle.rows.specs.Table.{tab};
 ghost use Rattle.moves.specs.Moves.{

@@ -1,0 +1,2 @@
+-- The laws that the proofs of good form cite.
+pub mod Laws

@@ -1,0 +1,2 @@
+-- What good form is.
+pub mod Form
