@@ -1,0 +1,122 @@
+-- The entry points: what each leaves and answers on every input (document 01, "Rows and parties", "The moves", "Refusal numbers").
+use Prim.{Unit}
+use mathlib.Core.List.{List, _++_}
+use mathlib.Core.Bool.{Bool, not, _&&_, _||_}
+use Prim.Native.Nat.{ℕ, zero, suc}
+use lib.ListN.{length, drop, replicate}
+use lib.Dec.{eqb, ltb, leb}
+use Rattle.refusal.specs.Answer.{accepted, Left, left, Tests, passed, refusing, leaving}
+use Rattle.columns.specs.Column.{put, zeros}
+use Rattle.rows.specs.Table.{Table, tab}
+use Rattle.party.specs.declared.Call.{Call}
+use Rattle.party.specs.declared.Call.the-variants.{Add, Remove, Contains}
+use Rattle.party.specs.declared.State.{State}
+use Rattle.party.specs.Party.{blank, partyAt}
+use Rattle.moves.specs.declared.Said.{Said}
+use Rattle.bare.specs.Bare.{Machine, machine, Stepped, bareCallOf, bareMoveOf}
+use Rattle.form.specs.Form.{rowsIn, columnsAgree, isIdle, isContains, goodForm}
+use Rattle.list.specs.Chain.{rises, liveFrom}
+
+-- ---- tests that several entry points share
+
+-- 1: columns unequal, or N outside 4 to 4,096
+abbrev pub badColumns : (kind key next back : ℕ) → Bool
+badColumns kind key next back = not (columnsAgree kind key next back && (leb 4 kind && leb kind 4096))
+
+abbrev pub badTable : Table → Bool
+badTable t = badColumns (length (t .kind)) (length (t .key)) (length (t .next)) (length (t .back))
+
+-- 1, then 3, then what the entry point itself asks
+abbrev pub formTests : Machine → Tests → Tests
+formTests m asked = refusing (badTable (m .table)) 1 (refusing (not (goodForm m)) 3 asked)
+
+-- ---- set-up: 1, 2
+
+-- 2: P 0 or over 16
+abbrev pub badParties : ℕ → Bool
+badParties parties = eqb parties 0 || ltb 16 parties
+
+abbrev pub setUpTests : Table → ℕ → Tests
+setUpTests t parties = refusing (badTable t) 1 (refusing (badParties parties) 2 passed)
+
+-- four entries for rows 0 to 3
+abbrev pub ends : List ℕ → (a b c d : ℕ) → List ℕ
+ends column a b c d = put (put (put (put column 0 a) 1 b) 2 c) 3 d
+
+-- rows 0 to 3 have kind 1, key 0, back 0 and next 1, 2, 3, 3; all other rows are zeros
+abbrev pub freshTable : (rows : ℕ) → Table
+freshTable rows = tab (ends (zeros rows) 1 1 1 1) (zeros rows) (ends (zeros rows) 1 2 3 3) (zeros rows)
+
+-- all parties idle without a spare, so many rows taken, tallies 0
+abbrev pub restingState : (parties taken : ℕ) → State
+restingState parties taken = record { parties = replicate 16 blank; count = parties; taken = taken; moves = 0; won = 0; lost = 0 }
+
+-- a refused set-up leaves the columns as found; the state that it hands back has no party and no row, and every later call is refused
+unfoldable pub setUpOf : Table → ℕ → Left Machine (Unit {0})
+setUpOf t parties =
+    leaving (setUpTests t parties) (machine t (restingState 0 0)) (left (machine (freshTable (rowsIn t)) (restingState parties 4)) passed)
+
+-- ---- call: 1, 3, 4, 5, 6, 7
+
+-- call codes: 0 ADD, 1 REMOVE, 2 CONTAINS
+abbrev pub callNamed : ℕ → Call
+callNamed zero = Add
+callNamed (suc zero) = Remove
+callNamed (suc (suc more)) = Contains
+
+-- 7: ADD or REMOVE, no spare, T = N
+abbrev pub noRow : (unpublished : Bool) (taken rows : ℕ) → Call → Bool
+noRow unpublished taken rows call = not (isContains call) && (not unpublished && eqb taken rows)
+
+-- 4, 5, 6, 7
+abbrev pub callAsks : State → (rows party code : ℕ) → Tests
+callAsks st rows party code =
+    refusing (leb (st .count) party) 4
+    (refusing (not (isIdle (partyAt st party .place))) 5
+    (refusing (ltb 2 code) 6
+    (refusing (noRow (partyAt st party .unpublished) (st .taken) rows (callNamed code)) 7 passed)))
+
+abbrev pub callTests : Machine → (party code : ℕ) → Tests
+callTests m party code = formTests m (callAsks (m .state) (rowsIn (m .table)) party code)
+
+unfoldable pub callOf : Machine → (party code key : ℕ) → Left Machine (Unit {0})
+callOf m party code key = leaving (callTests m party code) m (left (bareCallOf m party (callNamed code) key) passed)
+
+-- ---- move: 1, 3, 4, 8, 9
+
+-- 4, 8, 9
+abbrev pub moveAsks : State → (party : ℕ) → Tests
+moveAsks st party =
+    refusing (leb (st .count) party) 4
+    (refusing (isIdle (partyAt st party .place)) 8
+    (refusing (eqb (st .moves) 16777216) 9 passed))
+
+abbrev pub moveTests : Machine → (party : ℕ) → Tests
+moveTests m party = formTests m (moveAsks (m .state) party)
+
+-- a move is answered by what it says
+abbrev pub accepting : Stepped → Left Machine Said
+accepting made = left (made .after) (accepted (made .said))
+
+unfoldable pub moveOf : Machine → (party : ℕ) → Left Machine Said
+moveOf m party = leaving (moveTests m party) m (accepting (bareMoveOf m party))
+
+-- ---- listing: 1, 3, 10
+
+-- the chain starts at row 1, and no more than T rows are on it
+abbrev pub chainRises : Machine → Bool
+chainRises m = rises (m .table) (m .state .taken) 1
+
+abbrev pub liveKeys : Machine → List ℕ
+liveKeys m = liveFrom (m .table) (m .state .taken) 1
+
+abbrev pub listTests : Machine → (places : ℕ) → Tests
+listTests m places = formTests m (refusing (not (chainRises m)) 3 (refusing (ltb places (length (liveKeys m))) 10 passed))
+
+-- the first places hold the keys, and no other place is written
+abbrev pub placesWith : List ℕ → List ℕ → List ℕ
+placesWith keys places = keys ++ drop (length keys) places
+
+-- what a listing leaves in its places, and how many keys it has listed; the table and the state are only read
+unfoldable pub listOf : Machine → List ℕ → Left (List ℕ) ℕ
+listOf m places = leaving (listTests m (length places)) places (left (placesWith (liveKeys m) places) (accepted (length (liveKeys m))))

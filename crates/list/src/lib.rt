@@ -1,0 +1,287 @@
+// The entry points of the list: set-up, call, move and listing, each with its refusals in their order.
+use crate::chain::chain_rises;
+use crate::chain::live_count;
+use crate::chain::write_live;
+use crate::fresh::fresh_table;
+use crate::fresh::resting_state;
+use form::good_form;
+use form::is_contains;
+use form::is_idle;
+use moves::Said;
+use party::Call;
+use party::Place;
+use party::State;
+use refusal::Refusal;
+use refusal::Verdict;
+ghost use mathlib.Core.Path.{_≡_};
+ghost use mathlib.Core.Bool.{not, _&&_, _||_};
+ghost use lib.ListN.{length};
+ghost use lib.Dec.{eqb, ltb, leb};
+ghost use Rattle.refusal.specs.Answer.{left, verdictIs, refusing, passed};
+ghost use Rattle.rows.specs.Table.{tab};
+ghost use Rattle.bare.specs.Bare.{machine};
+ghost use Rattle.list.specs.Engine.{
+  badColumns,
+  formTests,
+  badParties,
+  setUpTests,
+  setUpOf,
+  callNamed,
+  noRow,
+  callAsks,
+  callOf,
+  moveAsks,
+  moveOf,
+  listTests,
+  listOf,
+};
+ghost use Rattle.list.specs.Answers.{afterIs, stepIs, listedIs};
+
+pub mod chain;
+pub mod fresh;
+
+// What a set-up or a call hands back: the state, and whether it was accepted.
+pub struct After {
+    pub state: State,
+    pub verdict: Verdict,
+}
+
+// What a move is answered.
+pub enum Reply {
+    Heard(Said),
+    Refused(Refusal),
+}
+
+// What a move hands back: the state and the answer.
+pub struct Stepped {
+    pub state: State,
+    pub reply: Reply,
+}
+
+// What a listing is answered: how many keys it has listed, or a refusal.
+pub enum Listed {
+    Keys(usize),
+    Refused(Refusal),
+}
+
+// Whether the columns, given by their lengths, differ, or are too short or too long.
+pub fn bad_columns(kind: usize, key: usize, next: usize, back: usize) -> bool
+    ensures { λ r. ⌜ r ≡ badColumns kind key next back ⌝ }
+{
+    !(form::columns_agree(kind, key, next, back) & ((4 <= kind) & (kind <= 4096)))
+}
+
+// 1, 2.
+pub fn set_up_verdict(kind: usize, key: usize, next: usize, back: usize, parties: u32) -> Verdict
+    ensures { λ r. ⌜ verdictIs r ≡ refusing (badColumns kind key next back) 1 (refusing (badParties parties) 2 passed) ⌝ }
+{
+    if bad_columns(kind, key, next, back) {
+        return Verdict::Refused(Refusal::BadColumns);
+    }
+    if (parties == 0) | (16 < parties) {
+        return Verdict::Refused(Refusal::BadParties);
+    }
+    Verdict::Accepted
+}
+
+// Lays an empty list for so many parties into the columns.
+pub fn set_up(
+    kind: &mut [u8],
+    key: &mut [u32],
+    next: &mut [u16],
+    back: &mut [u16],
+    parties: u32,
+) -> After
+    ensures { λ r. ⌜ afterIs (tab (now (kind .exit)) (now (key .exit)) (now (next .exit)) (now (back .exit))) r ≡ setUpOf (tab (now (kind .entry)) (now (key .entry)) (now (next .entry)) (now (back .entry))) parties ⌝ }
+{
+    let verdict = set_up_verdict(kind.len(), key.len(), next.len(), back.len(), parties);
+    match verdict {
+        Verdict::Accepted => {
+            fresh_table(kind, key, next, back);
+            After {
+                state: resting_state(parties as u8, 4),
+                verdict,
+            }
+        }
+        Verdict::Refused(_) => After {
+            state: resting_state(0, 0),
+            verdict,
+        },
+    }
+}
+
+// The call that a code names.
+pub fn call_named(code: u32) -> Call
+    ensures { λ r. ⌜ r ≡ callNamed code ⌝ }
+{
+    match code {
+        0 => Call::Add,
+        1 => Call::Remove,
+        _ => Call::Contains,
+    }
+}
+
+// Whether an ADD or a REMOVE has no row to take.
+pub fn no_row(unpublished: bool, taken: u16, rows: usize, call: Call) -> bool
+    ensures { λ r. ⌜ r ≡ noRow unpublished taken rows call ⌝ }
+{
+    !is_contains(call) & (!unpublished & ((taken as usize) == rows))
+}
+
+// 4, 5, 6, 7: what a call asks of a state of good form, with columns of so many rows.
+pub fn call_asks(state: State, rows: usize, number: u32, code: u32) -> Verdict
+    ensures { λ r. ⌜ verdictIs r ≡ callAsks state rows number code ⌝ }
+{
+    if (state.count as u32) <= number {
+        return Verdict::Refused(Refusal::NoSuchParty);
+    }
+    let party = state.party_at(number);
+    let place = party.place;
+    if !is_idle(place) {
+        return Verdict::Refused(Refusal::PartyBusy);
+    }
+    if 2 < code {
+        return Verdict::Refused(Refusal::NoSuchCall);
+    }
+    if no_row(party.unpublished, state.taken, rows, call_named(code)) {
+        return Verdict::Refused(Refusal::TableFull);
+    }
+    Verdict::Accepted
+}
+
+// 4, 8, 9: what a move asks of a state of good form.
+pub fn move_asks(state: State, number: u32) -> Verdict
+    ensures { λ r. ⌜ verdictIs r ≡ moveAsks state number ⌝ }
+{
+    if (state.count as u32) <= number {
+        return Verdict::Refused(Refusal::NoSuchParty);
+    }
+    let party = state.party_at(number);
+    let place = party.place;
+    if is_idle(place) {
+        return Verdict::Refused(Refusal::PartyIdle);
+    }
+    if state.moves == 16777216 {
+        return Verdict::Refused(Refusal::MovesSpent);
+    }
+    Verdict::Accepted
+}
+
+// 1, 3, then what the entry point itself has found.
+pub fn form_verdict(
+    kind: &[u8],
+    key: &[u32],
+    next: &[u16],
+    back: &[u16],
+    state: State,
+    asked: Verdict,
+) -> Verdict
+    ensures { λ r. ⌜ verdictIs r ≡ formTests (machine (tab (now (kind .entry)) (now (key .entry)) (now (next .entry)) (now (back .entry))) state) (verdictIs asked) ⌝ }
+{
+    if bad_columns(kind.len(), key.len(), next.len(), back.len()) {
+        return Verdict::Refused(Refusal::BadColumns);
+    }
+    if !good_form(kind, key, next, back, state) {
+        return Verdict::Refused(Refusal::BadForm);
+    }
+    asked
+}
+
+// Starts a call of a party.
+pub fn call(
+    kind: &mut [u8],
+    key: &mut [u32],
+    next: &mut [u16],
+    back: &mut [u16],
+    state: State,
+    number: u32,
+    code: u32,
+    wanted: u32,
+) -> After
+    ensures { λ r. ⌜ afterIs (tab (now (kind .exit)) (now (key .exit)) (now (next .exit)) (now (back .exit))) r ≡ callOf (machine (tab (now (kind .entry)) (now (key .entry)) (now (next .entry)) (now (back .entry))) state) number code wanted ⌝ }
+{
+    let asked = call_asks(state, kind.len(), number, code);
+    let verdict = form_verdict(kind, key, next, back, state, asked);
+    match verdict {
+        Verdict::Accepted => After {
+            state: bare::call(
+                kind,
+                key,
+                next,
+                back,
+                state,
+                number,
+                call_named(code),
+                wanted,
+            ),
+            verdict,
+        },
+        Verdict::Refused(_) => After { state, verdict },
+    }
+}
+
+// Makes one move of a party.
+pub fn step(
+    kind: &mut [u8],
+    key: &mut [u32],
+    next: &mut [u16],
+    back: &mut [u16],
+    state: State,
+    number: u32,
+) -> Stepped
+    ensures { λ r. ⌜ stepIs (tab (now (kind .exit)) (now (key .exit)) (now (next .exit)) (now (back .exit))) r ≡ moveOf (machine (tab (now (kind .entry)) (now (key .entry)) (now (next .entry)) (now (back .entry))) state) number ⌝ }
+{
+    let verdict = form_verdict(kind, key, next, back, state, move_asks(state, number));
+    match verdict {
+        Verdict::Accepted => {
+            let done = bare::step(kind, key, next, back, state, number);
+            let after = done.state;
+            let said = done.said;
+            Stepped {
+                state: after,
+                reply: Reply::Heard(said),
+            }
+        }
+        Verdict::Refused(why) => Stepped {
+            state,
+            reply: Reply::Refused(why),
+        },
+    }
+}
+
+// 3, 10: what a listing asks of a state of good form.
+pub fn list_asks(rises: bool, count: usize, places: usize) -> Verdict
+    ensures { λ r. ⌜ verdictIs r ≡ refusing (not rises) 3 (refusing (ltb places count) 10 passed) ⌝ }
+{
+    if !rises {
+        return Verdict::Refused(Refusal::BadForm);
+    }
+    if places < count {
+        return Verdict::Refused(Refusal::NoRoom);
+    }
+    Verdict::Accepted
+}
+
+// Writes the live keys, in rising order, into the first of the places.
+pub fn listing(
+    kind: &[u8],
+    key: &[u32],
+    next: &[u16],
+    back: &[u16],
+    state: State,
+    places: &mut [u32],
+) -> Listed
+    ensures { λ r. ⌜ left (now (places .exit)) (listedIs r) ≡ listOf (machine (tab (now (kind .entry)) (now (key .entry)) (now (next .entry)) (now (back .entry))) state) (now (places .entry)) ⌝ }
+{
+    let rises = chain_rises(kind, key, next, back, state.taken);
+    let count = live_count(kind, key, next, back, state.taken);
+    let asked = list_asks(rises, count, places.len());
+    let verdict = form_verdict(kind, key, next, back, state, asked);
+    match verdict {
+        Verdict::Accepted => {
+            write_live(kind, key, next, back, state.taken, places);
+            Listed::Keys(count)
+        }
+        Verdict::Refused(why) => Listed::Refused(why),
+    }
+}
