@@ -2,3 +2,4 @@
 pub mod Chain
 pub mod Engine
 pub mod Answers
+pub mod Claims
