@@ -1,94 +1,15 @@
+-- `call` is the bare call where its tests pass.
+-- Assumes nothing.
+use Rattle.list.proofs.Laws.{call-accepts, call-refuses}
 use borrow.Author.Needs.{needs}
 use Rattle.list.proofs.call.Statement.{statement}
 use Rattle.list.proofs.call.Tie as tie
-use Rattle.list.proofs.call.Reads as reads
-use Rattle.list.proofs.call.Lts as lts
-use Rattle.bare.proofs.call.Reads as call-reads
-use Rattle.list.proofs.call_asks.Reads as call-asks-reads
-use Rattle.list.proofs.call_named.Reads as call-named-reads
-use Rattle.list.proofs.form_verdict.Reads as form-verdict-reads
 
--- src/lib.rt:203:9
-call-asks-requires : tie.Need-call-asks-requires
-call-asks-requires c κs = search needs
+accepted : tie.Need-returns
+accepted c = call-accepts _ _ _ _ (c .before .before .before .before .before .before .before .before .before .before .before .before .before .before .before .before .before .before .before .before .before .call-asks .result) (c .before .before .before .before .before .before .before .before .before .before .before .before .before .before .before .before .before .before .before .before .before .call-asks .ensures) (c .before .before .before .before .before .before .before .before .before .before .before .before .before .before .before .before .form-verdict .ensures) (c .before .before .before .before .before .before .before .before .before .before .before .before .before .before .enum-told .given .1) (c .before .before .before .before .before .before .before .before .before .call-named .ensures) (c .before .before .before .before .before .before .before .before .call .ensures)
 
--- src/lib.rt:204:9
-form-verdict-requires : tie.Need-form-verdict-requires
-form-verdict-requires c κs = search needs
-
--- src/lib.rt:208:17
-enum-told : tie.Need-enum-told
-enum-told c = search needs
-
--- src/lib.rt:214:17
-call-named-requires : tie.Need-call-named-requires
-call-named-requires c κs = search needs
-
--- src/lib.rt:207:20
-call-requires : tie.Need-call-requires
-call-requires c κs = search needs
-
--- src/lib.rt:219:32
-enum-told-2 : tie.Need-enum-told-2
-enum-told-2 c = search needs
-
--- src/lib.rt:191:1
-same-length : tie.Need-same-length
-same-length c = search needs
-
--- src/lib.rt:191:1
-same-length-2 : tie.Need-same-length-2
-same-length-2 c = search needs
-
--- src/lib.rt:191:1
-same-length-3 : tie.Need-same-length-3
-same-length-3 c = search needs
-
--- src/lib.rt:191:1
-same-length-4 : tie.Need-same-length-4
-same-length-4 c = search needs
-
--- src/lib.rt:191:1
-returns : tie.Need-returns
-returns c = ?
-
--- src/lib.rt:191:1
-same-length-5 : tie.Need-same-length-5
-same-length-5 c = search needs
-
--- src/lib.rt:191:1
-same-length-6 : tie.Need-same-length-6
-same-length-6 c = search needs
-
--- src/lib.rt:191:1
-same-length-7 : tie.Need-same-length-7
-same-length-7 c = search needs
-
--- src/lib.rt:191:1
-same-length-8 : tie.Need-same-length-8
-same-length-8 c = search needs
-
--- src/lib.rt:191:1
-returns-2 : tie.Need-returns-2
-returns-2 c = ?
+refused : tie.Need-returns-2
+refused c = call-refuses _ _ _ _ (c .before .before .before .before .before .before .before .call-asks .result) (c .before .before .before .before .before .before .before .call-asks .ensures) (c .before .before .form-verdict .ensures) (c .enum-told2 .given .1)
 
 pub call-spec : {M : Type 1} → statement M
-call-spec =
-    tie.close
-    (tie.spec
-    call-asks-requires
-    form-verdict-requires
-    enum-told
-    call-named-requires
-    call-requires
-    enum-told-2
-    same-length
-    same-length-2
-    same-length-3
-    same-length-4
-    returns
-    same-length-5
-    same-length-6
-    same-length-7
-    same-length-8
-    returns-2)
+call-spec = tie.close (tie.spec (λ c κs. search needs) (λ c κs. search needs) (λ c. search needs) (λ c κs. search needs) (λ c κs. search needs) (λ c. search needs) (λ c. search needs) (λ c. search needs) (λ c. search needs) (λ c. search needs) accepted (λ c. search needs) (λ c. search needs) (λ c. search needs) (λ c. search needs) refused)

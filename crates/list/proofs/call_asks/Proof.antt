@@ -1,64 +1,24 @@
+-- `call_asks` tests for 4, 5, 6, 7 in that order.
+-- Assumes nothing.
+use borrow.Author.Tests.{le-leb, lt-leb, lt-ltb, le-ltb}
 use borrow.Author.Needs.{needs}
 use Rattle.list.proofs.call_asks.Statement.{statement}
 use Rattle.list.proofs.call_asks.Tie as tie
-use Rattle.list.proofs.call_asks.Reads as reads
-use Rattle.list.proofs.call_asks.Lts as lts
-use Rattle.form.proofs.is_idle.Reads as is-idle-reads
-use Rattle.list.proofs.call_named.Reads as call-named-reads
-use Rattle.list.proofs.no_row.Reads as no-row-reads
-use Rattle.party.proofs.State.party_at.Reads as party-at-reads
 
--- src/lib.rt:135:9
-cast-if1 : tie.Need-cast-if1
-cast-if1 c = search needs
+no-party : tie.Need-returns
+no-party c = rw (le-leb _ _ (c .if1 .taken))
 
--- src/lib.rt:136:9
-returns : tie.Need-returns
-returns c = ?
+busy : tie.Need-returns-2
+busy c = rw (lt-leb _ _ (c .before .before .before .if1 .left), ← c .before .before .party-at .ensures, ← c .before .is-idle .ensures, c .if2 .taken)
 
--- src/lib.rt:138:9
-party-at-requires : tie.Need-party-at-requires
-party-at-requires c κs = search needs
+no-call : tie.Need-returns-3
+no-call c = rw (lt-leb _ _ (c .before .before .before .before .if1 .left), ← c .before .before .before .party-at .ensures, ← c .before .before .is-idle .ensures, c .before .if2 .left, lt-ltb _ _ (c .if3 .taken))
 
--- src/lib.rt:140:9
-is-idle-requires : tie.Need-is-idle-requires
-is-idle-requires c κs = search needs
+full : tie.Need-returns-4
+full c = rw (lt-leb _ _ (c .before .before .before .before .before .before .before .if1 .left), ← c .before .before .before .before .before .before .party-at .ensures, ← c .before .before .before .before .before .is-idle .ensures, c .before .before .before .before .if2 .left, le-ltb _ _ (c .before .before .before .if3 .left), ← c .before .before .call-named .ensures, ← c .before .no-row .ensures, c .if4 .taken)
 
--- src/lib.rt:141:9
-returns-2 : tie.Need-returns-2
-returns-2 c = ?
-
--- src/lib.rt:144:9
-returns-3 : tie.Need-returns-3
-returns-3 c = ?
-
--- src/lib.rt:146:53
-call-named-requires : tie.Need-call-named-requires
-call-named-requires c κs = search needs
-
--- src/lib.rt:146:8
-no-row-requires : tie.Need-no-row-requires
-no-row-requires c κs = search needs
-
--- src/lib.rt:147:9
-returns-4 : tie.Need-returns-4
-returns-4 c = ?
-
--- src/lib.rt:132:1
-returns-5 : tie.Need-returns-5
-returns-5 c = ?
+accepted : tie.Need-returns-5
+accepted c = rw (lt-leb _ _ (c .before .before .before .before .before .before .before .if1 .left), ← c .before .before .before .before .before .before .party-at .ensures, ← c .before .before .before .before .before .is-idle .ensures, c .before .before .before .before .if2 .left, le-ltb _ _ (c .before .before .before .if3 .left), ← c .before .before .call-named .ensures, ← c .before .no-row .ensures, c .if4 .left)
 
 pub call-asks-spec : {M : Type 1} → statement M
-call-asks-spec =
-    tie.close
-    (tie.spec
-    cast-if1
-    returns
-    party-at-requires
-    is-idle-requires
-    returns-2
-    returns-3
-    call-named-requires
-    no-row-requires
-    returns-4
-    returns-5)
+call-asks-spec = tie.close (tie.spec (λ c. search needs) no-party (λ c κs. search needs) (λ c κs. search needs) busy no-call (λ c κs. search needs) (λ c κs. search needs) full accepted)

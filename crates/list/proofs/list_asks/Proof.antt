@@ -1,19 +1,17 @@
+-- `list_asks` tests for 3, then 10.
+-- Assumes nothing.
+use borrow.Author.Tests.{lt-ltb, le-ltb}
 use Rattle.list.proofs.list_asks.Statement.{statement}
 use Rattle.list.proofs.list_asks.Tie as tie
-use Rattle.list.proofs.list_asks.Reads as reads
-use Rattle.list.proofs.list_asks.Lts as lts
 
--- src/lib.rt:257:9
-returns : tie.Need-returns
-returns c = ?
+no-rise : tie.Need-returns
+no-rise c = rw (c .if1 .taken)
 
--- src/lib.rt:260:9
-returns-2 : tie.Need-returns-2
-returns-2 c = ?
+no-room : tie.Need-returns-2
+no-room c = rw (c .before .if1 .left, lt-ltb _ _ (c .if2 .taken))
 
--- src/lib.rt:253:1
-returns-3 : tie.Need-returns-3
-returns-3 c = ?
+accepted : tie.Need-returns-3
+accepted c = rw (c .before .if1 .left, le-ltb _ _ (c .if2 .left))
 
 pub list-asks-spec : {M : Type 1} → statement M
-list-asks-spec = tie.close (tie.spec returns returns-2 returns-3)
+list-asks-spec = tie.close (tie.spec no-rise no-room accepted)

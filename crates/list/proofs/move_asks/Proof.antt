@@ -1,40 +1,21 @@
+-- `move_asks` tests for 4, 8, 9 in that order.
+-- Assumes nothing.
+use borrow.Author.Tests.{le-leb, lt-leb, eq-eqb, ne-eqb}
 use borrow.Author.Needs.{needs}
 use Rattle.list.proofs.move_asks.Statement.{statement}
 use Rattle.list.proofs.move_asks.Tie as tie
-use Rattle.list.proofs.move_asks.Reads as reads
-use Rattle.list.proofs.move_asks.Lts as lts
-use Rattle.form.proofs.is_idle.Reads as is-idle-reads
-use Rattle.party.proofs.State.party_at.Reads as party-at-reads
 
--- src/lib.rt:156:9
-cast-if1 : tie.Need-cast-if1
-cast-if1 c = search needs
+no-party : tie.Need-returns
+no-party c = rw (le-leb _ _ (c .if1 .taken))
 
--- src/lib.rt:157:9
-returns : tie.Need-returns
-returns c = ?
+idle : tie.Need-returns-2
+idle c = rw (lt-leb _ _ (c .before .before .before .if1 .left), ← c .before .before .party-at .ensures, ← c .before .is-idle .ensures, c .if2 .taken)
 
--- src/lib.rt:159:9
-party-at-requires : tie.Need-party-at-requires
-party-at-requires c κs = search needs
+spent : tie.Need-returns-3
+spent c = rw (lt-leb _ _ (c .before .before .before .before .before .if1 .left), ← c .before .before .before .before .party-at .ensures, ← c .before .before .before .is-idle .ensures, c .before .before .if2 .left, eq-eqb _ _ (c .if3 .taken))
 
--- src/lib.rt:161:8
-is-idle-requires : tie.Need-is-idle-requires
-is-idle-requires c κs = search needs
-
--- src/lib.rt:162:9
-returns-2 : tie.Need-returns-2
-returns-2 c = ?
-
--- src/lib.rt:165:9
-returns-3 : tie.Need-returns-3
-returns-3 c = ?
-
--- src/lib.rt:153:1
-returns-4 : tie.Need-returns-4
-returns-4 c = ?
+accepted : tie.Need-returns-4
+accepted c = rw (lt-leb _ _ (c .before .before .before .before .before .if1 .left), ← c .before .before .before .before .party-at .ensures, ← c .before .before .before .is-idle .ensures, c .before .before .if2 .left, ne-eqb _ _ (c .if3 .left))
 
 pub move-asks-spec : {M : Type 1} → statement M
-move-asks-spec =
-    tie.close
-    (tie.spec cast-if1 returns party-at-requires is-idle-requires returns-2 returns-3 returns-4)
+move-asks-spec = tie.close (tie.spec (λ c. search needs) no-party (λ c κs. search needs) (λ c κs. search needs) idle spent accepted)

@@ -1,69 +1,38 @@
+-- `chain_rises` follows the chain as long as it rises.
+-- Assumes nothing.
+use mathlib.Core.Path.{_≡_, refl, sym, ap, _∙_}
+use Prim.Native.Nat.{ℕ, _≤_, _-_}
+use native.Mathlib.Omega.{arith}
+use Rattle.rows.specs.Table.{Table, tab}
+use Rattle.list.specs.Chain.{rises}
+use Rattle.list.proofs.Walk.{rises-none, rises-end, rises-stop, rises-on}
+use borrow.Author.Needs.{needs}
 use Rattle.list.proofs.chain.chain_rises.Statement.{statement}
 use Rattle.list.proofs.chain.chain_rises.Tie as tie
-use Rattle.list.proofs.chain.chain_rises.Reads as reads
-use Rattle.list.proofs.chain.chain_rises.Lts as lts
-use Rattle.list.proofs.chain.row_behind.Reads as row-behind-reads
-use Rattle.rows.proofs.Row.rank.Reads as rank-reads
 
 abbrev Inv-loop : tie.InvT-loop
-Inv-loop kind key next back taken row₀ left₀ row left = ?
+Inv-loop kind key next back taken row₀ left₀ row left = (left ≤ taken) × (rises (tab kind key next back) taken 1 ≡ rises (tab kind key next back) left row)
 
 abbrev μ-loop : tie.MeasureT-loop
-μ-loop kind key next back taken row₀ left₀ row left = ?
+μ-loop kind key next back taken row₀ left₀ row left = left
 
--- src/chain.rt:38:5
-loop-holds : tie.Need-loop-holds Inv-loop μ-loop
-loop-holds c = ?
+abbrev table : tie.Start Inv-loop μ-loop → Table
+table z = tab (z .args .kind .now) (z .args .key .now) (z .args .next .now) (z .args .back .now)
 
--- src/chain.rt:40:13
-returns : tie.Need-returns Inv-loop μ-loop
-returns c = ?
+holds : tie.Need-loop-holds Inv-loop μ-loop
+holds c = (omega arith, refl)
 
--- src/chain.rt:42:13
-row-behind-requires : tie.Need-row-behind-requires Inv-loop μ-loop
-row-behind-requires c κs = ?
+arrived : tie.Need-returns Inv-loop μ-loop
+arrived c = let m = c .before .before in sym (m .loop .inv .1 ∙ rises-end (table (m .before .before .before .before .before)) (m .loop .row) (m .loop .left) (c .if1 .taken))
 
--- src/chain.rt:43:12
-rank-requires : tie.Need-rank-requires Inv-loop μ-loop
-rank-requires c κs = ?
+falls : tie.Need-returns-2 Inv-loop μ-loop
+falls c = let m = c .before .before .before .before .before .before in sym (m .loop .inv .1 ∙ rises-stop (table (m .before .before .before .before .before)) (m .loop .row) (m .loop .left) (omega arith) (c .before .before .before .before .if1 .left) (rw (← c .before .before .before .row-behind .ensures, ← c .before .before .rank .ensures, ← c .before .rank2 .ensures) (c .if2 .taken)))
 
--- src/chain.rt:43:42
-rank-requires-2 : tie.Need-rank-requires-2 Inv-loop μ-loop
-rank-requires-2 c κs = ?
+again : tie.Need-loop-again Inv-loop μ-loop
+again c = let m = c .before .before .before .before .before .before in (omega arith, m .loop .inv .1 ∙ rises-on (table (m .before .before .before .before .before)) (m .loop .row) (m .loop .left) (omega arith) (c .before .before .before .before .if1 .left) (rw (← c .before .before .before .row-behind .ensures, ← c .before .before .rank .ensures, ← c .before .rank2 .ensures) (c .if2 .left)) ∙ ap (rises (table (m .before .before .before .before .before)) (m .loop .left - 1)) (sym (c .before .before .before .row-behind .ensures)))
 
--- src/chain.rt:44:13
-returns-2 : tie.Need-returns-2 Inv-loop μ-loop
-returns-2 c = ?
-
--- src/chain.rt:47:9
-sub-left : tie.Need-sub-left Inv-loop μ-loop
-sub-left c = ?
-
--- src/chain.rt:38:5
-loop-less : tie.Need-loop-less Inv-loop μ-loop
-loop-less c = ?
-
--- src/chain.rt:38:5
-loop-again : tie.Need-loop-again Inv-loop μ-loop
-loop-again c = ?
-
--- src/chain.rt:33:1
-returns-3 : tie.Need-returns-3 Inv-loop μ-loop
-returns-3 c = ?
+out : tie.Need-returns-3 Inv-loop μ-loop
+out c = let m = c .before in let spent : m .loop .left ≡ 0 = omega arith in sym (m .loop .inv .1 ∙ ap (λ (n : ℕ). rises (table (m .before .before .before .before .before)) n (m .loop .row)) spent ∙ rises-none (table (m .before .before .before .before .before)) (m .loop .row))
 
 pub chain-rises-spec : {M : Type 1} → statement M
-chain-rises-spec =
-    tie.close
-    (tie.spec
-    Inv-loop
-    μ-loop
-    loop-holds
-    returns
-    row-behind-requires
-    rank-requires
-    rank-requires-2
-    returns-2
-    sub-left
-    loop-less
-    loop-again
-    returns-3)
+chain-rises-spec = tie.close (tie.spec Inv-loop μ-loop holds arrived (λ c κs. search needs) (λ c κs. search needs) (λ c κs. search needs) falls (λ c. omega arith) (λ c. omega arith) again out)

@@ -1,70 +1,41 @@
+-- `live_count` counts the live keys on the chain.
+-- Assumes nothing.
+use mathlib.Core.Path.{_≡_, refl, sym, ap, _∙_}
+use mathlib.Core.List.{List}
+use Prim.Native.Nat.{ℕ, _+_, _≤_}
+use native.Mathlib.Omega.{arith}
+use native.Mathlib.Nat.{zero-add, add-zero}
+use lib.ListN.{length}
+use Rattle.rows.specs.Table.{Table, tab}
+use Rattle.list.specs.Chain.{liveFrom}
+use Rattle.list.proofs.Walk.{live-none, live-end, count-on, one-at-most}
+use borrow.Author.Needs.{needs}
 use Rattle.list.proofs.chain.live_count.Statement.{statement}
 use Rattle.list.proofs.chain.live_count.Tie as tie
-use Rattle.list.proofs.chain.live_count.Reads as reads
-use Rattle.list.proofs.chain.live_count.Lts as lts
-use Rattle.list.proofs.chain.is_live.Reads as is-live-reads
-use Rattle.list.proofs.chain.one_if.Reads as one-if-reads
-use Rattle.list.proofs.chain.row_behind.Reads as row-behind-reads
 
 abbrev Inv-loop : tie.InvT-loop
-Inv-loop kind key next back taken row₀ left₀ count₀ row left count = ?
+Inv-loop kind key next back taken row₀ left₀ count₀ row left count = (count + left ≤ taken) × (length (liveFrom (tab kind key next back) taken 1) ≡ count + length (liveFrom (tab kind key next back) left row))
 
 abbrev μ-loop : tie.MeasureT-loop
-μ-loop kind key next back taken row₀ left₀ count₀ row left count = ?
+μ-loop kind key next back taken row₀ left₀ count₀ row left count = left
 
--- src/chain.rt:66:5
-loop-holds : tie.Need-loop-holds Inv-loop μ-loop
-loop-holds c = ?
+abbrev table : tie.Start Inv-loop μ-loop → Table
+table z = tab (z .args .kind .now) (z .args .key .now) (z .args .next .now) (z .args .back .now)
 
--- src/chain.rt:68:13
-returns : tie.Need-returns Inv-loop μ-loop
-returns c = ?
+holds : tie.Need-loop-holds Inv-loop μ-loop
+holds c = (omega arith, sym (zero-add _))
 
--- src/chain.rt:70:25
-is-live-requires : tie.Need-is-live-requires Inv-loop μ-loop
-is-live-requires c κs = ?
+arrived : tie.Need-returns Inv-loop μ-loop
+arrived c = let m = c .before .before in sym (m .loop .inv .1 ∙ ap (λ (keys : List ℕ). m .loop .count + length keys) (live-end (table (m .before .before .before .before .before)) (m .loop .row) (m .loop .left) (c .if1 .taken)) ∙ add-zero (m .loop .count))
 
--- src/chain.rt:70:18
-one-if-requires : tie.Need-one-if-requires Inv-loop μ-loop
-one-if-requires c κs = ?
+adds : tie.Need-add-count Inv-loop μ-loop
+adds c = let one : c .one-if .result ≤ 1 = one-at-most (c .before .is-live .result) (c .one-if .ensures) in omega arith
 
--- src/chain.rt:70:9
-add-count : tie.Need-add-count Inv-loop μ-loop
-add-count c = ?
+again : tie.Need-loop-again Inv-loop μ-loop
+again c = let m = c .before .before .before .before .before in let one : c .before .one-if .result ≤ 1 = one-at-most (c .before .before .is-live .result) (c .before .one-if .ensures) in (omega arith, m .loop .inv .1 ∙ count-on (table (m .before .before .before .before .before)) (m .loop .row) (m .loop .left) (omega arith) (c .before .before .before .if1 .left) (c .before .before .is-live .ensures) (c .before .one-if .ensures) (c .row-behind .ensures) (m .loop .count))
 
--- src/chain.rt:71:9
-row-behind-requires : tie.Need-row-behind-requires Inv-loop μ-loop
-row-behind-requires c κs = ?
-
--- src/chain.rt:72:9
-sub-left : tie.Need-sub-left Inv-loop μ-loop
-sub-left c = ?
-
--- src/chain.rt:66:5
-loop-less : tie.Need-loop-less Inv-loop μ-loop
-loop-less c = ?
-
--- src/chain.rt:66:5
-loop-again : tie.Need-loop-again Inv-loop μ-loop
-loop-again c = ?
-
--- src/chain.rt:60:1
-returns-2 : tie.Need-returns-2 Inv-loop μ-loop
-returns-2 c = ?
+out : tie.Need-returns-2 Inv-loop μ-loop
+out c = let m = c .before in let spent : m .loop .left ≡ 0 = omega arith in sym (m .loop .inv .1 ∙ ap (λ (n : ℕ). m .loop .count + length (liveFrom (table (m .before .before .before .before .before)) n (m .loop .row))) spent ∙ ap (λ (keys : List ℕ). m .loop .count + length keys) (live-none (table (m .before .before .before .before .before)) (m .loop .row)) ∙ add-zero (m .loop .count))
 
 pub live-count-spec : {M : Type 1} → statement M
-live-count-spec =
-    tie.close
-    (tie.spec
-    Inv-loop
-    μ-loop
-    loop-holds
-    returns
-    is-live-requires
-    one-if-requires
-    add-count
-    row-behind-requires
-    sub-left
-    loop-less
-    loop-again
-    returns-2)
+live-count-spec = tie.close (tie.spec Inv-loop μ-loop holds arrived (λ c κs. search needs) (λ c κs. search needs) adds (λ c κs. search needs) (λ c. omega arith) (λ c. omega arith) again out)

@@ -1,92 +1,47 @@
+-- `write_live` writes the live keys on the chain, one after another.
+-- Assumes nothing.
+use mathlib.Core.Path.{_≡_, refl, sym, ap, _∙_}
+use mathlib.Core.List.{List}
+use Prim.Native.Nat.{ℕ, _+_, _≤_}
+use native.Mathlib.Omega.{arith}
+use lib.ListN.{length}
+use lib.Seq.{sets}
+use Rattle.rows.specs.Table.{Table, tab}
+use Rattle.list.specs.Chain.{liveFrom}
+use Rattle.list.proofs.Walk.{live-none, live-end, put-on, one-at-most}
+use borrow.Author.Needs.{needs}
 use Rattle.list.proofs.chain.write_live.Statement.{statement}
 use Rattle.list.proofs.chain.write_live.Tie as tie
-use Rattle.list.proofs.chain.write_live.Reads as reads
-use Rattle.list.proofs.chain.write_live.Lts as lts
-use Rattle.columns.proofs.read_u32.Reads as read-u32-reads
-use Rattle.list.proofs.chain.is_live.Reads as is-live-reads
-use Rattle.list.proofs.chain.one_if.Reads as one-if-reads
-use Rattle.list.proofs.chain.put_if.Reads as put-if-reads
-use Rattle.list.proofs.chain.row_behind.Reads as row-behind-reads
 
 abbrev Inv-loop : tie.InvT-loop
-Inv-loop kind key next back taken places₀ row₀ left₀ place₀ places row left place = ?
+Inv-loop kind key next back taken places₀ row₀ left₀ place₀ places row left place = (place + left ≤ taken) × (length places ≡ length places₀) × (sets places₀ 0 (liveFrom (tab kind key next back) taken 1) ≡ sets places place (liveFrom (tab kind key next back) left row))
 
 abbrev μ-loop : tie.MeasureT-loop
-μ-loop kind key next back taken places₀ row₀ left₀ place₀ places row left place = ?
+μ-loop kind key next back taken places₀ row₀ left₀ place₀ places row left place = left
 
--- src/chain.rt:102:5
-loop-holds : tie.Need-loop-holds Inv-loop μ-loop
-loop-holds c = ?
+abbrev table : tie.Start Inv-loop μ-loop → Table
+table z = tab (z .args .kind .now) (z .args .key .now) (z .args .next .now) (z .args .back .now)
 
--- src/chain.rt:104:13
-same-length : tie.Need-same-length Inv-loop μ-loop
-same-length c = ?
+holds : tie.Need-loop-holds Inv-loop μ-loop
+holds c = (omega arith, refl, refl)
 
--- src/chain.rt:104:13
-returns : tie.Need-returns Inv-loop μ-loop
-returns c = ?
+arrived : tie.Need-returns Inv-loop μ-loop
+arrived c = let m = c .before .before in sym (m .loop .inv .2 ∙ ap (λ (keys : List ℕ). sets (m .loop .places) (m .loop .place) keys) (live-end (table (m .before .before .before .before .before .before)) (m .loop .row) (m .loop .left) (c .if1 .taken)))
 
--- src/chain.rt:106:13
-is-live-requires : tie.Need-is-live-requires Inv-loop μ-loop
-is-live-requires c κs = ?
+adds : tie.Need-add-place Inv-loop μ-loop
+adds c = let one : c .one-if .result ≤ 1 = one-at-most (c .before .before .before .before .before .before .is-live .result) (c .one-if .ensures) in omega (arith, c .before .before .before .before .before .before .before .before .before .loop .inv, c .before .before .before .before .before .before .before .before .before .before .before .before .before .before .before .good, c .before .before .before .before .before .before .before .before .before .before .before .before .before .before .before .fits)
 
--- src/chain.rt:107:37
-read-u32-requires : tie.Need-read-u32-requires Inv-loop μ-loop
-read-u32-requires c κs = ?
+fewer : tie.Need-sub-left Inv-loop μ-loop
+fewer c = omega (arith, c .before .before .before .before .before .before .before .before .before .before .loop .inv, c .before .before .before .before .before .before .before .before .before .loop-test .taken)
 
--- src/chain.rt:107:9
-put-if-requires : tie.Need-put-if-requires Inv-loop μ-loop
-put-if-requires c κs = ?
+less : tie.Need-loop-less Inv-loop μ-loop
+less c = omega (arith, c .before .before .before .before .before .before .before .before .before .before .loop .inv, c .before .before .before .before .before .before .before .before .before .loop-test .taken)
 
--- src/chain.rt:108:18
-one-if-requires : tie.Need-one-if-requires Inv-loop μ-loop
-one-if-requires c κs = ?
+again : tie.Need-loop-again Inv-loop μ-loop
+again c = let m = c .before .before .before .before .before .before .before .before .before .before in let one : c .before .one-if .result ≤ 1 = one-at-most (c .before .before .before .before .before .before .before .is-live .result) (c .before .one-if .ensures) in (omega (arith, m .loop .inv, c .before .before .before .before .before .before .before .before .before .loop-test .taken), c .before .before .before .before .put-if .kept .1 .0 ∙ m .loop .inv .1, m .loop .inv .2 ∙ put-on (table (m .before .before .before .before .before .before)) (m .loop .row) (m .loop .left) (omega (arith, c .before .before .before .before .before .before .before .before .before .loop-test .taken)) (c .before .before .before .before .before .before .before .before .if1 .left) (c .before .before .before .before .before .before .before .is-live .ensures) (c .before .one-if .ensures) (c .row-behind .ensures) (m .loop .places) (m .loop .place) (c .before .before .before .before .before .read-u32 .ensures) (c .before .before .before .before .put-if .ensures))
 
--- src/chain.rt:108:9
-add-place : tie.Need-add-place Inv-loop μ-loop
-add-place c = ?
-
--- src/chain.rt:109:9
-row-behind-requires : tie.Need-row-behind-requires Inv-loop μ-loop
-row-behind-requires c κs = ?
-
--- src/chain.rt:110:9
-sub-left : tie.Need-sub-left Inv-loop μ-loop
-sub-left c = ?
-
--- src/chain.rt:102:5
-loop-less : tie.Need-loop-less Inv-loop μ-loop
-loop-less c = ?
-
--- src/chain.rt:102:5
-loop-again : tie.Need-loop-again Inv-loop μ-loop
-loop-again c = ?
-
--- src/chain.rt:89:1
-same-length-2 : tie.Need-same-length-2 Inv-loop μ-loop
-same-length-2 c = ?
-
--- src/chain.rt:89:1
-returns-2 : tie.Need-returns-2 Inv-loop μ-loop
-returns-2 c = ?
+out : tie.Need-returns-2 Inv-loop μ-loop
+out c = let m = c .before in let spent : m .loop .left ≡ 0 = omega arith in sym (m .loop .inv .2 ∙ ap (λ (n : ℕ). sets (m .loop .places) (m .loop .place) (liveFrom (table (m .before .before .before .before .before .before)) n (m .loop .row))) spent ∙ ap (λ (keys : List ℕ). sets (m .loop .places) (m .loop .place) keys) (live-none (table (m .before .before .before .before .before .before)) (m .loop .row)))
 
 pub write-live-spec : {M : Type 1} → statement M
-write-live-spec =
-    tie.close
-    (tie.spec
-    Inv-loop
-    μ-loop
-    loop-holds
-    same-length
-    returns
-    is-live-requires
-    read-u32-requires
-    put-if-requires
-    one-if-requires
-    add-place
-    row-behind-requires
-    sub-left
-    loop-less
-    loop-again
-    same-length-2
-    returns-2)
+write-live-spec = tie.close (tie.spec Inv-loop μ-loop holds (λ c. search needs) arrived (λ c κs. search needs) (λ c κs. search needs) (λ c κs. search needs) (λ c κs. search needs) adds (λ c κs. search needs) fewer less again (λ c. search needs) out)

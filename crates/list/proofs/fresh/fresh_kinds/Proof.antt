@@ -1,47 +1,11 @@
+-- `fresh_kinds` writes kind 1 in rows 0 to 3.
+-- Assumes nothing.
 use borrow.Author.Needs.{needs}
 use Rattle.list.proofs.fresh.fresh_kinds.Statement.{statement}
 use Rattle.list.proofs.fresh.fresh_kinds.Tie as tie
-use Rattle.list.proofs.fresh.fresh_kinds.Reads as reads
-use Rattle.list.proofs.fresh.fresh_kinds.Lts as lts
-use Rattle.columns.proofs.clear_u8.Reads as clear-u8-reads
-use Rattle.columns.proofs.write_u8.Reads as write-u8-reads
 
--- src/fresh.rt:20:5
-clear-u8-requires : tie.Need-clear-u8-requires
-clear-u8-requires c κs = search needs
-
--- src/fresh.rt:21:5
-write-u8-requires : tie.Need-write-u8-requires
-write-u8-requires c κs = search needs
-
--- src/fresh.rt:22:5
-write-u8-requires-2 : tie.Need-write-u8-requires-2
-write-u8-requires-2 c κs = search needs
-
--- src/fresh.rt:23:5
-write-u8-requires-3 : tie.Need-write-u8-requires-3
-write-u8-requires-3 c κs = search needs
-
--- src/fresh.rt:24:5
-write-u8-requires-4 : tie.Need-write-u8-requires-4
-write-u8-requires-4 c κs = search needs
-
--- src/fresh.rt:17:1
-same-length : tie.Need-same-length
-same-length c = search needs
-
--- src/fresh.rt:17:1
 returns : tie.Need-returns
-returns c = ?
+returns c = rw (c .before .before .write-u84 .ensures, c .before .before .before .before .before .before .write-u83 .ensures, c .before .before .before .before .before .before .before .before .before .before .write-u82 .ensures, c .before .before .before .before .before .before .before .before .before .before .before .before .before .before .write-u8 .ensures, c .before .before .before .before .before .before .before .before .before .before .before .before .before .before .before .before .before .before .clear-u8 .ensures)
 
 pub fresh-kinds-spec : {M : Type 1} → statement M
-fresh-kinds-spec =
-    tie.close
-    (tie.spec
-    clear-u8-requires
-    write-u8-requires
-    write-u8-requires-2
-    write-u8-requires-3
-    write-u8-requires-4
-    same-length
-    returns)
+fresh-kinds-spec = tie.close (tie.spec (λ c κs. search needs) (λ c κs. search needs) (λ c κs. search needs) (λ c κs. search needs) (λ c κs. search needs) (λ c. search needs) returns)

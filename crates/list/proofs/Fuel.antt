@@ -1,0 +1,178 @@
+-- A chain that rises visits a row once, so the rows taken are fuel enough for a listing.
+-- Assumes nothing.
+use mathlib.Core.Path.{_≡_, refl, ap}
+use mathlib.Core.Bool.{Bool, true, false, cond, _&&_, _||_}
+use mathlib.Core.List.{List, []}
+use mathlib.Core.Logic.{⊎-elim}
+use Prim.Native.Nat.{ℕ, zero, suc, _+_, _-_, _≤_, _<_, min}
+use native.Mathlib.Nat.{eq-or-lt-of-le, le-of-suc-le-suc}
+use native.Mathlib.Omega.{arith}
+use lib.Dec.{eqb, ltb, leb}
+use lib.ListN.{length}
+use borrow.Author.Tests.{ltb-true, lt-ltb, leb-true, eqb-true}
+use Rattle.columns.specs.Column.{at}
+use Rattle.columns.proofs.Every.{and-left, and-right, every-at}
+use Rattle.rows.specs.Table.{Table, keyAt, nextAt, isSplice}
+use Rattle.rows.specs.Order.{rankAt}
+use Rattle.bare.specs.Bare.{Machine}
+use Rattle.form.specs.Form.{rowsIn, columnsAgree, takenFits, kindsFit, keysFit, linkFits, linksFit, countFits, partiesFit, talliesFit, goodForm}
+use Rattle.list.specs.Chain.{behind, isLive, rises, withKey, liveFrom}
+use Rattle.list.specs.Claims.{FuelNeverDecides}
+
+-- ---- how many of the first rows have a rank above a bound
+
+above : (ℕ → ℕ) → (rows bound : ℕ) → ℕ
+above rankOf zero bound = 0
+above rankOf (suc rows) bound = min 1 (rankOf rows - bound) + above rankOf rows bound
+
+module _ (rankOf : ℕ → ℕ) where
+  above-small : (rows bound : ℕ) → above rankOf rows bound ≤ rows
+  unfolding above
+  above-small zero bound = omega arith
+  above-small (suc rows) bound = omega (arith, above-small rows bound)
+
+  -- a higher bound leaves no more rows
+  above-shrinks : (rows low high : ℕ) → low ≤ high → above rankOf rows high ≤ above rankOf rows low
+  unfolding above
+  above-shrinks zero low high up = omega arith
+  above-shrinks (suc rows) low high up = omega (arith, above-shrinks rows low high up)
+
+  -- a step up to a row leaves fewer
+  above-falls : (rows low row : ℕ) → row < rows → low < rankOf row → above rankOf rows (rankOf row) < above rankOf rows low
+  unfolding above
+  above-falls zero low row inside up = omega arith
+  above-falls (suc rows) low row inside up =
+      ⊎-elim
+      (λ (e : row ≡ rows). omega (arith, ap rankOf e, above-shrinks rows low (rankOf row) (omega arith)))
+      (λ (l : row < rows). omega (arith, above-falls rows low row l up))
+      (eq-or-lt-of-le (le-of-suc-le-suc inside))
+
+-- ---- laws of the tests, whatever they say
+
+or-nothing : (last up on : Bool) → (up ≡ true → ⊥) → last || (up && on) ≡ last
+or-nothing true up on never = refl
+or-nothing false true on never = absurd (never refl)
+or-nothing false false on never = refl
+
+or-same : (last up on other : Bool) → (up ≡ true → on ≡ other) → last || (up && on) ≡ last || (up && other)
+or-same true up on other same = refl
+or-same false true on other same = same refl
+or-same false false on other same = refl
+
+none-at-last : (last : Bool) (some : List ℕ) → last ≡ true → cond last [] some ≡ []
+none-at-last last some ended = rw ended
+
+same-before-last : (last up on : Bool) (some other : List ℕ) → last || (up && on) ≡ true → (on ≡ true → some ≡ other) → cond last [] some ≡ cond last [] other
+same-before-last true up on some other climbing same = refl
+same-before-last false up on some other climbing same = same (and-right up on climbing)
+
+either-below : (splice : Bool) (far near limit : ℕ) → far < limit → near < limit → cond splice far near < limit
+either-below true far near limit far-below near-below = far-below
+either-below false far near limit far-below near-below = near-below
+
+-- ---- more fuel finds no other key
+
+-- the row behind stands higher
+abbrev climbs : Table → ℕ → Bool
+climbs t row = ltb (rankAt t row) (rankAt t (behind t row))
+
+-- a row's key, if it counts, before those found behind it
+abbrev found : Table → (fuel row : ℕ) → List ℕ
+found t fuel row = withKey (isLive t row) (keyAt t row) (liveFrom t fuel (behind t row))
+
+same-keys : (t : Table) (fuel full row : ℕ) → fuel ≤ full → rises t fuel row ≡ true → liveFrom t full row ≡ liveFrom t fuel row
+unfolding rises liveFrom
+same-keys t zero zero row more up = refl
+same-keys t zero (suc full) row more up = none-at-last (eqb row 2) (found t full row) up
+same-keys t (suc fuel) zero row more up = absurd (omega arith)
+same-keys t (suc fuel) (suc full) row more up =
+    same-before-last (eqb row 2) (climbs t row) (rises t fuel (behind t row)) (found t full row) (found t fuel row) up
+    (λ (on : rises t fuel (behind t row) ≡ true).
+    ap (withKey (isLive t row) (keyAt t row)) (same-keys t fuel full (behind t row) (le-of-suc-le-suc more) on))
+
+-- ---- fuel for the rows above finds the answer
+
+module _ (t : Table) (taken : ℕ) (links : (row : ℕ) → row < taken → nextAt t row < taken) where
+  stays : (row : ℕ) → row < taken → behind t row < taken
+  stays row inside =
+      either-below (isSplice t (nextAt t row)) (nextAt t (nextAt t row)) (nextAt t row) taken
+      (links (nextAt t row) (links row inside)) (links row inside)
+
+  -- a climb leaves fewer rows above
+  fewer-above : (row : ℕ) → row < taken → climbs t row ≡ true →
+      above (rankAt t) taken (rankAt t (behind t row)) < above (rankAt t) taken (rankAt t row)
+  fewer-above row inside up =
+      above-falls (rankAt t) taken (rankAt t row) (behind t row) (stays row inside) (ltb-true (rankAt t row) (rankAt t (behind t row)) up)
+
+  same-answer : (fuel full row : ℕ) → fuel ≤ full → row < taken → above (rankAt t) taken (rankAt t row) ≤ fuel → rises t full row ≡ rises t fuel row
+  unfolding rises
+  same-answer zero zero row more inside enough = refl
+  same-answer zero (suc full) row more inside enough =
+      or-nothing (eqb row 2) (climbs t row) (rises t full (behind t row))
+      (λ (up : climbs t row ≡ true). omega (arith, fewer-above row inside up))
+  same-answer (suc fuel) zero row more inside enough = absurd (omega arith)
+  same-answer (suc fuel) (suc full) row more inside enough =
+      or-same (eqb row 2) (climbs t row) (rises t full (behind t row)) (rises t fuel (behind t row))
+      (λ (up : climbs t row ≡ true).
+      same-answer fuel full (behind t row) (le-of-suc-le-suc more) (stays row inside) (omega (arith, fewer-above row inside up)))
+
+-- ---- good form keeps every next of a taken row among the taken rows
+
+-- three of nine tests: the columns, the rows taken, the links
+of-nine : (a b c d e f g h i : Bool) → a && b && c && d && e && f && g && h && i ≡ true → (a ≡ true) × ((b ≡ true) × (e ≡ true))
+of-nine a b c d e f g h i all =
+    let five : a && b && c && d && e ≡ true =
+    and-left (a && b && c && d && e) f (and-left (a && b && c && d && e && f) g
+    (and-left (a && b && c && d && e && f && g) h (and-left (a && b && c && d && e && f && g && h) i all))) in
+    let two : a && b ≡ true = and-left (a && b) c (and-left (a && b && c) d (and-left (a && b && c && d) e five)) in
+    (and-left a b two, (and-right a b two, and-right (a && b && c && d) e five))
+
+three-facts : (m : Machine) → goodForm m ≡ true →
+    (columnsAgree (length (m .table .kind)) (length (m .table .key)) (length (m .table .next)) (length (m .table .back)) ≡ true)
+    × ((takenFits (m .state .taken) (rowsIn (m .table)) ≡ true) × (linksFit (m .table .next) (m .state .taken) ≡ true))
+unfolding goodForm
+three-facts m good =
+    of-nine
+    (columnsAgree (length (m .table .kind)) (length (m .table .key)) (length (m .table .next)) (length (m .table .back)))
+    (takenFits (m .state .taken) (rowsIn (m .table)))
+    (kindsFit (m .table .kind) (m .state .taken))
+    (keysFit (m .table .key) (m .state .taken))
+    (linksFit (m .table .next) (m .state .taken))
+    (linksFit (m .table .back) (m .state .taken))
+    (countFits (m .state .count))
+    (partiesFit (m .state))
+    (talliesFit (m .state .moves) (m .state .won) (m .state .lost))
+    good
+
+taken-fits : (taken rows : ℕ) → takenFits taken rows ≡ true → (4 ≤ taken) × (taken ≤ rows)
+taken-fits taken rows fits =
+    (leb-true 4 taken (and-left (leb 4 taken) (leb taken rows) fits), leb-true taken rows (and-right (leb 4 taken) (leb taken rows) fits))
+
+next-long : (kind key next back : ℕ) → columnsAgree kind key next back ≡ true → next ≡ kind
+next-long kind key next back agree =
+    eqb-true next kind (and-right (eqb key kind) (eqb next kind) (and-left (eqb key kind && eqb next kind) (eqb back kind) agree))
+
+link-below : (taken row to : ℕ) → row < taken → linkFits taken row to ≡ true → to < taken
+link-below taken row to inside fits = ltb-true to taken (rw (lt-ltb row taken inside) at fits)
+
+module _ (m : Machine) (good : goodForm m ≡ true) where
+  fits : (4 ≤ m .state .taken) × (m .state .taken ≤ rowsIn (m .table))
+  fits = taken-fits (m .state .taken) (rowsIn (m .table)) (three-facts m good .1 .0)
+
+  long : length (m .table .next) ≡ rowsIn (m .table)
+  long = next-long (rowsIn (m .table)) (length (m .table .key)) (length (m .table .next)) (length (m .table .back)) (three-facts m good .0)
+
+  good-links : (row : ℕ) → row < m .state .taken → nextAt (m .table) row < m .state .taken
+  unfolding linksFit
+  good-links row inside =
+      link-below (m .state .taken) row (nextAt (m .table) row) inside
+      (every-at (λ place. linkFits (m .state .taken) place (at (m .table .next) place)) (length (m .table .next)) (three-facts m good .1 .1) row
+      (omega (arith, fits, long)))
+
+pub fuel-never-decides : FuelNeverDecides
+fuel-never-decides m more good =
+    let taken : ℕ = m .state .taken in (
+      same-answer (m .table) taken (good-links m good) taken (taken + more) 1 (omega arith) (omega (arith, fits m good))
+          (above-small (rankAt (m .table)) taken (rankAt (m .table) 1)),
+      same-keys (m .table) taken (taken + more) 1 (omega arith),
+    )

@@ -1,0 +1,184 @@
+-- The entry points case by case: what the tests found, and what is then answered and left.
+-- Assumes nothing.
+use mathlib.Core.Path.{_≡_, refl, ap, sym, _∙_}
+use mathlib.Core.Bool.{Bool, true, false, not, true≢false, _||_, _&&_}
+use mathlib.Core.List.{List, _++_}
+use Prim.Native.Nat.{ℕ, zero, suc, _+_, _≤_}
+use native.Mathlib.Omega.{arith}
+use native.Mathlib.Nat.{zero-add}
+use lib.ListN.{length, drop}
+use lib.Seq.{sets, sets-eq}
+use lib.Dec.{eqb, ltb, leb}
+use borrow.Author.Tests.{ltb-false, eqb-true, not-false}
+use Rattle.refusal.specs.declared.Refusal.{Refusal}
+use Rattle.refusal.specs.declared.Verdict.{Verdict}
+use Rattle.refusal.specs.declared.Verdict.the-variants.{Accepted, Refused}
+use Rattle.refusal.specs.Number.{numberOf}
+use Rattle.refusal.specs.Answer.{accepted, refused, Left, left, Tests, passed, refusing, leaving, verdictIs}
+use Rattle.refusal.proofs.Laws.{past-test}
+use Rattle.refusal.proofs.Told.{tests-told}
+use Rattle.columns.specs.Column.{zeros}
+use Rattle.columns.proofs.Every.{and-left, and-right}
+use Rattle.rows.specs.Table.{Table, tab}
+use Rattle.party.specs.declared.Call.{Call}
+use Rattle.party.specs.declared.Call.the-variants.{Contains}
+use Rattle.party.specs.declared.State.{State}
+use Rattle.moves.specs.declared.Said.{Said}
+use Rattle.bare.specs.Bare.{Machine, machine, stepped, bareCallOf, bareMoveOf}
+use Rattle.form.specs.Form.{rowsIn, columnsAgree, goodForm}
+use Rattle.list.specs.Chain.{rises, liveFrom}
+use Rattle.list.specs.Engine.{
+  badTable,
+  formTests,
+  badParties,
+  setUpTests,
+  ends,
+  freshTable,
+  restingState,
+  setUpOf,
+  callNamed,
+  callAsks,
+  callTests,
+  callOf,
+  moveAsks,
+  moveTests,
+  accepting,
+  moveOf,
+  chainRises,
+  liveKeys,
+  listTests,
+  placesWith,
+  listOf,
+}
+
+-- every code past 1 names CONTAINS
+pub past-remove : (code : ℕ) → (code ≡ 0 → ⊥) → (code ≡ 1 → ⊥) → Contains ≡ callNamed code
+past-remove zero a b = absurd (a refl)
+past-remove (suc zero) a b = absurd (b refl)
+past-remove (suc (suc more)) a b = refl
+
+-- what an entry point leaves where its tests pass, and where they refuse
+leaves-changed : {M A : Type 0} (tests : Tests) (found : M) (changed : Left M A) → tests ≡ passed → changed ≡ leaving tests found changed
+leaves-changed tests found changed passes = rw passes
+
+leaves-found : {M A : Type 0} (tests : Tests) (found : M) (changed : Left M A) {number : ℕ} →
+    tests ≡ refused number → left found (refused number) ≡ leaving tests found changed
+leaves-found tests found changed stops = rw stops
+
+-- what the code's two verdicts tell of the tests
+form-told : (m : Machine) (asked : Verdict) {verdict found : Verdict} {asks : Tests} →
+    verdictIs asked ≡ asks → verdictIs verdict ≡ formTests m (verdictIs asked) → verdict ≡ found → formTests m asks ≡ verdictIs found
+form-told m asked asks forms is = tests-told (forms ∙ ap (formTests m) asks) is
+
+or-right : (a b : Bool) → a || b ≡ false → b ≡ false
+or-right true b h = absurd (true≢false h)
+or-right false b h = h
+
+-- ---- set-up
+
+-- columns that pass have one length
+pub one-length : (t : Table) → badTable t ≡ false → (length (t .key) ≡ rowsIn t) × (length (t .next) ≡ rowsIn t) × (length (t .back) ≡ rowsIn t)
+one-length t good =
+    let agree : columnsAgree (length (t .kind)) (length (t .key)) (length (t .next)) (length (t .back)) ≡ true =
+    and-left _ (leb 4 (length (t .kind)) && leb (length (t .kind)) 4096) (not-false _ good) in
+    let two : eqb (length (t .key)) (length (t .kind)) && eqb (length (t .next)) (length (t .kind)) ≡ true = and-left _ (eqb (length (t .back)) (length (t .kind))) agree in
+    (eqb-true _ _ (and-left _ (eqb (length (t .next)) (length (t .kind))) two), eqb-true _ _ (and-right (eqb (length (t .key)) (length (t .kind))) _ two), eqb-true _ _ (and-right (eqb (length (t .key)) (length (t .kind)) && eqb (length (t .next)) (length (t .kind))) _ agree))
+
+module _ (t : Table) (parties : ℕ) where
+  table-passes : setUpTests t parties ≡ passed → badTable t ≡ false
+  table-passes passes = past-test (badTable t) 1 (refusing (badParties parties) 2 passed) passes .0
+
+  parties-pass : setUpTests t parties ≡ passed → badParties parties ≡ false
+  parties-pass passes = past-test (badParties parties) 2 passed (past-test (badTable t) 1 (refusing (badParties parties) 2 passed) passes .1) .0
+
+  -- then the number of parties is small
+  pub few-parties : setUpTests t parties ≡ passed → parties ≤ 16
+  few-parties passes = ltb-false 16 parties (or-right (eqb parties 0) (ltb 16 parties) (parties-pass passes))
+
+  -- four columns, each fresh by its own length, are the fresh table of so many rows
+  fresh-so : {t′ : Table} → badTable t ≡ false →
+      t′ ≡ tab (ends (zeros (length (t .kind))) 1 1 1 1) (zeros (length (t .key))) (ends (zeros (length (t .next))) 1 2 3 3) (zeros (length (t .back))) →
+      t′ ≡ freshTable (rowsIn t)
+  fresh-so good is = let same = one-length t good in is ∙ rw (same .0, same .1, same .2)
+
+  pub set-up-accepts : {verdict : Verdict} {t′ : Table} {st : State} → verdictIs verdict ≡ setUpTests t parties → verdict ≡ Accepted →
+      t′ ≡ tab (ends (zeros (length (t .kind))) 1 1 1 1) (zeros (length (t .key))) (ends (zeros (length (t .next))) 1 2 3 3) (zeros (length (t .back))) →
+      st ≡ restingState parties 4 → left (machine t′ st) (verdictIs verdict) ≡ setUpOf t parties
+  unfolding setUpOf
+  set-up-accepts tests is lays rests =
+      let passes : setUpTests t parties ≡ passed = tests-told tests is in
+      rw (is, fresh-so (table-passes passes) lays, rests) (leaves-changed (setUpTests t parties) (machine t (restingState 0 0)) (left (machine (freshTable (rowsIn t)) (restingState parties 4)) passed) passes)
+
+  pub set-up-refuses : {verdict : Verdict} {why : Refusal} {st : State} → verdictIs verdict ≡ setUpTests t parties → verdict ≡ Refused why →
+      st ≡ restingState 0 0 → left (machine t st) (verdictIs verdict) ≡ setUpOf t parties
+  unfolding setUpOf
+  set-up-refuses tests is rests = rw (is, rests)
+      (leaves-found (setUpTests t parties) (machine t (restingState 0 0)) (left (machine (freshTable (rowsIn t)) (restingState parties 4)) passed) (tests-told tests is))
+
+-- ---- call and move
+
+module _ (m : Machine) (party : ℕ) where
+  pub call-accepts : (code key : ℕ) (asked : Verdict) {verdict : Verdict} {call : Call} {after : Machine} →
+      verdictIs asked ≡ callAsks (m .state) (rowsIn (m .table)) party code → verdictIs verdict ≡ formTests m (verdictIs asked) → verdict ≡ Accepted →
+      call ≡ callNamed code → after ≡ bareCallOf m party call key → left after (verdictIs verdict) ≡ callOf m party code key
+  unfolding callOf
+  call-accepts code key asked asks forms is named calls =
+      rw (is, calls, named)
+      (leaves-changed (callTests m party code) m (left (bareCallOf m party (callNamed code) key) passed) (form-told m asked asks forms is))
+
+  pub call-refuses : (code key : ℕ) (asked : Verdict) {verdict : Verdict} {why : Refusal} →
+      verdictIs asked ≡ callAsks (m .state) (rowsIn (m .table)) party code → verdictIs verdict ≡ formTests m (verdictIs asked) → verdict ≡ Refused why →
+      left m (verdictIs verdict) ≡ callOf m party code key
+  unfolding callOf
+  call-refuses code key asked asks forms is =
+      rw is (leaves-found (callTests m party code) m (left (bareCallOf m party (callNamed code) key) passed) (form-told m asked asks forms is))
+
+  pub move-accepts : (asked : Verdict) {verdict : Verdict} {after : Machine} {said : Said} →
+      verdictIs asked ≡ moveAsks (m .state) party → verdictIs verdict ≡ formTests m (verdictIs asked) → verdict ≡ Accepted →
+      stepped after said ≡ bareMoveOf m party → left after (accepted said) ≡ moveOf m party
+  unfolding moveOf
+  move-accepts asked asks forms is moves =
+      ap accepting moves ∙ leaves-changed (moveTests m party) m (accepting (bareMoveOf m party)) (form-told m asked asks forms is)
+
+  pub move-refuses : (asked : Verdict) {verdict : Verdict} {why : Refusal} →
+      verdictIs asked ≡ moveAsks (m .state) party → verdictIs verdict ≡ formTests m (verdictIs asked) → verdict ≡ Refused why →
+      left m (refused (numberOf why)) ≡ moveOf m party
+  unfolding moveOf
+  move-refuses asked asks forms is = leaves-found (moveTests m party) m (accepting (bareMoveOf m party)) (form-told m asked asks forms is)
+
+-- ---- listing
+
+-- what a listing asks beside good form
+abbrev listAsks : Machine → ℕ → Tests
+listAsks m places = refusing (not (chainRises m)) 3 (refusing (ltb places (length (liveKeys m))) 10 passed)
+
+module _ (m : Machine) (places : List ℕ) where
+  -- where the tests pass there is a place for each key
+  room : listTests m (length places) ≡ passed → length (liveKeys m) ≤ length places
+  room passes =
+      let past-one = past-test (badTable (m .table)) 1 (refusing (not (goodForm m)) 3 (listAsks m (length places))) passes .1 in
+      let past-form = past-test (not (goodForm m)) 3 (listAsks m (length places)) past-one .1 in
+      let past-rise = past-test (not (chainRises m)) 3 (refusing (ltb (length places) (length (liveKeys m))) 10 passed) past-form .1 in
+      ltb-false (length places) (length (liveKeys m)) (past-test (ltb (length places) (length (liveKeys m))) 10 passed past-rise .0)
+
+  pub list-accepts : (asked : Verdict) {verdict : Verdict} {rise : Bool} {count : ℕ} {after : List ℕ} →
+      rise ≡ chainRises m → count ≡ length (liveKeys m) →
+      verdictIs asked ≡ refusing (not rise) 3 (refusing (ltb (length places) count) 10 passed) →
+      verdictIs verdict ≡ formTests m (verdictIs asked) → verdict ≡ Accepted → after ≡ sets places 0 (liveKeys m) →
+      left after (accepted count) ≡ listOf m places
+  unfolding listOf
+  list-accepts asked rise-is counts asks forms is writes =
+      let passes : listTests m (length places) ≡ passed = form-told m asked (rw (← rise-is, ← counts) asks) forms is in
+      let listed : sets places 0 (liveKeys m) ≡ placesWith (liveKeys m) places =
+      rw zero-add at (sets-eq (liveKeys m) places 0 (rw zero-add (room passes))) in
+      rw (writes, counts, listed) (leaves-changed (listTests m (length places)) places (left (placesWith (liveKeys m) places) (accepted (length (liveKeys m)))) passes)
+
+  pub list-refuses : (asked : Verdict) {verdict : Verdict} {rise : Bool} {count : ℕ} {why : Refusal} →
+      rise ≡ chainRises m → count ≡ length (liveKeys m) →
+      verdictIs asked ≡ refusing (not rise) 3 (refusing (ltb (length places) count) 10 passed) →
+      verdictIs verdict ≡ formTests m (verdictIs asked) → verdict ≡ Refused why →
+      left places (refused (numberOf why)) ≡ listOf m places
+  unfolding listOf
+  list-refuses asked rise-is counts asks forms is =
+      leaves-found (listTests m (length places)) places (left (placesWith (liveKeys m) places) (accepted (length (liveKeys m))))
+      (form-told m asked (rw (← rise-is, ← counts) asks) forms is)

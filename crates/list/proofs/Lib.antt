@@ -1,0 +1,4 @@
+-- The proofs of what specs/Claims states of the entry points, and the laws that the proofs of the code cite.
+pub mod Laws
+pub mod Walk
+pub mod Fuel
