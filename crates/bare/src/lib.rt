@@ -14,10 +14,10 @@ ghost use Rattle.rows.specs.Table.{tab};
 ghost use Rattle.bare.specs.Bare.{machine, ownRow, takenThen, startOf, begunOf, bareCallOf, stepped, settled, bareMoveOf};
 
 // What a call comes to: the party after it, what is written, how many rows are then taken.
-pub struct Begun {
-    pub party: Party,
-    pub write: Write,
-    pub taken: u16,
+struct Begun {
+    party: Party,
+    write: Write,
+    taken: u16,
 }
 
 // The state after a move, and what is said with it.
@@ -27,7 +27,7 @@ pub struct Done {
 }
 
 // The row of an ADD or a REMOVE: the spare, else the next row that nobody has taken.
-pub fn own_row(state: State, party: Party) -> u16
+fn own_row(state: State, party: Party) -> u16
     ensures { λ r. ⌜ r ≡ ownRow state party ⌝ }
 {
     if party.unpublished {
@@ -38,7 +38,7 @@ pub fn own_row(state: State, party: Party) -> u16
 }
 
 // How many rows are then taken.
-pub fn taken_then(state: State, party: Party) -> u16
+fn taken_then(state: State, party: Party) -> u16
     ensures { λ r. ⌜ r ≡ takenThen state party ⌝ }
 {
     if party.unpublished {
@@ -49,7 +49,7 @@ pub fn taken_then(state: State, party: Party) -> u16
 }
 
 // An ADD or a REMOVE starts.
-pub fn start(state: State, party: Party, call: Call, wanted: u32) -> Begun
+fn start(state: State, party: Party, call: Call, wanted: u32) -> Begun
     ensures { λ r. ⌜ r ≡ startOf state party call wanted ⌝ }
 {
     let own = own_row(state, party);
@@ -62,7 +62,7 @@ pub fn start(state: State, party: Party, call: Call, wanted: u32) -> Begun
 }
 
 // A call starts.
-pub fn begin(state: State, party: Party, call: Call, wanted: u32) -> Begun
+fn begin(state: State, party: Party, call: Call, wanted: u32) -> Begun
     ensures { λ r. ⌜ r ≡ begunOf state party call wanted ⌝ }
 {
     match call {
@@ -97,7 +97,7 @@ pub fn call(
 }
 
 // The state with the party's record and the tallies after a move.
-pub fn settle(state: State, number: u32, moved: Moved) -> State
+fn settle(state: State, number: u32, moved: Moved) -> State
     ensures { λ r. ⌜ r ≡ settled state number moved ⌝ }
 {
     let party = moved.party;

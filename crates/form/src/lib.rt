@@ -42,12 +42,12 @@ ghost use Rattle.form.specs.Form.{
 };
 
 // Which of its values a party keeps.
-pub struct Keeps {
-    pub p: bool,
-    pub n: bool,
-    pub c: bool,
-    pub s: bool,
-    pub r: bool,
+struct Keeps {
+    p: bool,
+    n: bool,
+    c: bool,
+    s: bool,
+    r: bool,
 }
 
 // Whether the columns, given by their lengths, agree.
@@ -58,14 +58,14 @@ pub fn columns_agree(kind: usize, key: usize, next: usize, back: usize) -> bool
 }
 
 // Whether the number of rows taken fits the length of the columns.
-pub fn taken_fits(taken: u16, rows: usize) -> bool
+fn taken_fits(taken: u16, rows: usize) -> bool
     ensures { λ r. ⌜ r ≡ takenFits taken rows ⌝ }
 {
     (4 <= taken) & ((taken as usize) <= rows)
 }
 
 // Whether a row may have a kind.
-pub fn kind_fits(taken: usize, row: usize, kind: u8) -> bool
+fn kind_fits(taken: usize, row: usize, kind: u8) -> bool
     ensures { λ r. ⌜ r ≡ kindFits taken row kind ⌝ }
 {
     if row < 4 {
@@ -78,14 +78,14 @@ pub fn kind_fits(taken: usize, row: usize, kind: u8) -> bool
 }
 
 // Whether a row may have a key.
-pub fn key_fits(taken: usize, row: usize, key: u32) -> bool
+fn key_fits(taken: usize, row: usize, key: u32) -> bool
     ensures { λ r. ⌜ r ≡ keyFits taken row key ⌝ }
 {
     (row < taken) | (key == 0)
 }
 
 // Whether a row may have a next or a back.
-pub fn link_fits(taken: usize, row: usize, to: u16) -> bool
+fn link_fits(taken: usize, row: usize, to: u16) -> bool
     ensures { λ r. ⌜ r ≡ linkFits taken row to ⌝ }
 {
     if row < taken {
@@ -95,7 +95,7 @@ pub fn link_fits(taken: usize, row: usize, to: u16) -> bool
 }
 
 // Whether all kinds fit.
-pub fn kinds_fit(kind: &[u8], taken: u16) -> bool
+fn kinds_fit(kind: &[u8], taken: u16) -> bool
     ensures { λ r. ⌜ r ≡ kindsFit (now (kind .entry)) taken ⌝ }
 {
     let mut row = 0;
@@ -109,7 +109,7 @@ pub fn kinds_fit(kind: &[u8], taken: u16) -> bool
 }
 
 // Whether all keys fit.
-pub fn keys_fit(key: &[u32], taken: u16) -> bool
+fn keys_fit(key: &[u32], taken: u16) -> bool
     ensures { λ r. ⌜ r ≡ keysFit (now (key .entry)) taken ⌝ }
 {
     let mut row = 0;
@@ -123,7 +123,7 @@ pub fn keys_fit(key: &[u32], taken: u16) -> bool
 }
 
 // Whether all nexts, or all backs, fit.
-pub fn links_fit(links: &[u16], taken: u16) -> bool
+fn links_fit(links: &[u16], taken: u16) -> bool
     ensures { λ r. ⌜ r ≡ linksFit (now (links .entry)) taken ⌝ }
 {
     let mut row = 0;
@@ -137,7 +137,7 @@ pub fn links_fit(links: &[u16], taken: u16) -> bool
 }
 
 // Whether every row number in a party record is below the number taken.
-pub fn rows_below(taken: u16, party: Party) -> bool
+fn rows_below(taken: u16, party: Party) -> bool
     ensures { λ r. ⌜ r ≡ rowsBelow taken party ⌝ }
 {
     (party.p < taken)
@@ -148,14 +148,14 @@ pub fn rows_below(taken: u16, party: Party) -> bool
         & (party.own < taken)
 }
 
-pub fn keeping(p: bool, n: bool, c: bool, s: bool, r: bool) -> Keeps
+fn keeping(p: bool, n: bool, c: bool, s: bool, r: bool) -> Keeps
     ensures { λ made. ⌜ made ≡ keeping p n c s r ⌝ }
 {
     Keeps { p, n, c, s, r }
 }
 
 // The values that a place keeps.
-pub fn kept_at(place: Place) -> Keeps
+fn kept_at(place: Place) -> Keeps
     ensures { λ r. ⌜ r ≡ keptAt place ⌝ }
 {
     match place {
@@ -171,7 +171,7 @@ pub fn kept_at(place: Place) -> Keeps
     }
 }
 
-pub fn is_add(call: Call) -> bool
+fn is_add(call: Call) -> bool
     ensures { λ r. ⌜ r ≡ isAdd call ⌝ }
 {
     match call {
@@ -181,7 +181,7 @@ pub fn is_add(call: Call) -> bool
     }
 }
 
-pub fn is_remove(call: Call) -> bool
+fn is_remove(call: Call) -> bool
     ensures { λ r. ⌜ r ≡ isRemove call ⌝ }
 {
     match call {
@@ -202,7 +202,7 @@ pub fn is_contains(call: Call) -> bool
 }
 
 // Whether the party's call is a REMOVE.
-pub fn removing(place: Place) -> bool
+fn removing(place: Place) -> bool
     ensures { λ r. ⌜ r ≡ removing place ⌝ }
 {
     match place {
@@ -219,7 +219,7 @@ pub fn removing(place: Place) -> bool
 }
 
 // Whether all values but those kept are 0; a marked REMOVE also keeps r.
-pub fn others_zero(keeps: Keeps, party: Party) -> bool
+fn others_zero(keeps: Keeps, party: Party) -> bool
     ensures { λ r. ⌜ r ≡ othersZero keeps party ⌝ }
 {
     let place = party.place;
@@ -232,7 +232,7 @@ pub fn others_zero(keeps: Keeps, party: Party) -> bool
 }
 
 // Whether the party's call can reach its place.
-pub fn can_reach(place: Place) -> bool
+fn can_reach(place: Place) -> bool
     ensures { λ r. ⌜ r ≡ canReach place ⌝ }
 {
     match place {
@@ -249,14 +249,14 @@ pub fn can_reach(place: Place) -> bool
 }
 
 // No own row, or a spare.
-pub fn none_or_spare(own: u16, unpublished: bool) -> bool
+fn none_or_spare(own: u16, unpublished: bool) -> bool
     ensures { λ r. ⌜ r ≡ noneOrSpare own unpublished ⌝ }
 {
     if unpublished { 4 <= own } else { own == 0 }
 }
 
 // Whether the own row fits the place.
-pub fn own_fits(place: Place, own: u16, unpublished: bool) -> bool
+fn own_fits(place: Place, own: u16, unpublished: bool) -> bool
     ensures { λ r. ⌜ r ≡ ownFits place own unpublished ⌝ }
 {
     match place {
@@ -273,7 +273,7 @@ pub fn own_fits(place: Place, own: u16, unpublished: bool) -> bool
 }
 
 // Whether a party record has good form.
-pub fn record_fits(taken: u16, party: Party) -> bool
+fn record_fits(taken: u16, party: Party) -> bool
     ensures { λ r. ⌜ r ≡ recordFits taken party ⌝ }
 {
     let place = party.place;
@@ -300,7 +300,7 @@ pub fn is_idle(place: Place) -> bool
 }
 
 // Whether the record of party i fits; those beyond the count are idle without a spare.
-pub fn party_fits(taken: u16, count: u8, i: u32, party: Party) -> bool
+fn party_fits(taken: u16, count: u8, i: u32, party: Party) -> bool
     ensures { λ r. ⌜ r ≡ partyFits taken count i party ⌝ }
 {
     let place = party.place;
@@ -308,7 +308,7 @@ pub fn party_fits(taken: u16, count: u8, i: u32, party: Party) -> bool
 }
 
 // Whether all sixteen fit.
-pub fn parties_fit(state: State) -> bool
+fn parties_fit(state: State) -> bool
     ensures { λ r. ⌜ r ≡ partiesFit state ⌝ }
 {
     let mut i = 0;
@@ -322,14 +322,14 @@ pub fn parties_fit(state: State) -> bool
 }
 
 // Whether there is a party, and at most sixteen.
-pub fn count_fits(count: u8) -> bool
+fn count_fits(count: u8) -> bool
     ensures { λ r. ⌜ r ≡ countFits count ⌝ }
 {
     (1 <= count) & (count <= 16)
 }
 
 // Whether the tallies fit each other and the limit of moves.
-pub fn tallies_fit(moves: u32, won: u32, lost: u32) -> bool
+fn tallies_fit(moves: u32, won: u32, lost: u32) -> bool
     ensures { λ r. ⌜ r ≡ talliesFit moves won lost ⌝ }
 {
     ((won as u64) + (lost as u64) <= (moves as u64)) & (moves <= 16777216)

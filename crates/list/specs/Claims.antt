@@ -8,6 +8,9 @@ use Rattle.rows.specs.Table.{Table}
 use Rattle.moves.specs.declared.Said.{Said}
 use Rattle.bare.specs.Bare.{Machine, machine, bareCallOf, bareMoveOf}
 use Rattle.form.specs.Form.{rowsIn, goodForm}
+use Rattle.list.specs.declared.Reply.{Reply}
+use Rattle.list.specs.declared.Listed.{Listed}
+use Rattle.list.specs.Answers.{replyIs, listedIs}
 use Rattle.list.specs.Chain.{rises, liveFrom}
 use Rattle.list.specs.Engine.{badTable, restingState, setUpOf, callNamed, callAsks, callOf, moveAsks, accepting, moveOf, listOf}
 
@@ -58,3 +61,11 @@ RefusedMoveLeaves = (m : Machine) (party number : ℕ) → moveOf m party .answe
 
 abbrev pub RefusedListingLeaves : Type 0
 RefusedListingLeaves = (m : Machine) (places : List ℕ) (number : ℕ) → listOf m places .answer ≡ refused number → listOf m places .memory ≡ places
+
+-- ---- an answer tells its case: the promises, made in the document's terms, determine the enums
+
+abbrev pub RepliesDiffer : Type 0
+RepliesDiffer = (a b : Reply) → replyIs a ≡ replyIs b → a ≡ b
+
+abbrev pub ListedDiffer : Type 0
+ListedDiffer = (a b : Listed) → listedIs a ≡ listedIs b → a ≡ b

@@ -37,8 +37,8 @@ ghost use Rattle.list.specs.Engine.{
 };
 ghost use Rattle.list.specs.Answers.{afterIs, stepIs, listedIs};
 
-pub mod chain;
-pub mod fresh;
+mod chain;
+mod fresh;
 
 // What a set-up or a call hands back: the state, and whether it was accepted.
 pub struct After {
@@ -65,14 +65,14 @@ pub enum Listed {
 }
 
 // Whether the columns, given by their lengths, differ, or are too short or too long.
-pub fn bad_columns(kind: usize, key: usize, next: usize, back: usize) -> bool
+fn bad_columns(kind: usize, key: usize, next: usize, back: usize) -> bool
     ensures { λ r. ⌜ r ≡ badColumns kind key next back ⌝ }
 {
     !(form::columns_agree(kind, key, next, back) & ((4 <= kind) & (kind <= 4096)))
 }
 
 // 1, 2.
-pub fn set_up_verdict(kind: usize, key: usize, next: usize, back: usize, parties: u32) -> Verdict
+fn set_up_verdict(kind: usize, key: usize, next: usize, back: usize, parties: u32) -> Verdict
     ensures { λ r. ⌜ verdictIs r ≡ refusing (badColumns kind key next back) 1 (refusing (badParties parties) 2 passed) ⌝ }
 {
     if bad_columns(kind, key, next, back) {
@@ -122,7 +122,7 @@ pub fn call_named(code: u32) -> Call
 }
 
 // Whether an ADD or a REMOVE has no row to take.
-pub fn no_row(unpublished: bool, taken: u16, rows: usize, call: Call) -> bool
+fn no_row(unpublished: bool, taken: u16, rows: usize, call: Call) -> bool
     ensures { λ r. ⌜ r ≡ noRow unpublished taken rows call ⌝ }
 {
     !is_contains(call) & (!unpublished & ((taken as usize) == rows))
@@ -168,7 +168,7 @@ pub fn move_asks(state: State, number: u32) -> Verdict
 }
 
 // 1, 3, then what the entry point itself has found.
-pub fn form_verdict(
+fn form_verdict(
     kind: &[u8],
     key: &[u32],
     next: &[u16],
@@ -250,7 +250,7 @@ pub fn step(
 }
 
 // 3, 10: what a listing asks of a state of good form.
-pub fn list_asks(rises: bool, count: usize, places: usize) -> Verdict
+fn list_asks(rises: bool, count: usize, places: usize) -> Verdict
     ensures { λ r. ⌜ verdictIs r ≡ refusing (not rises) 3 (refusing (ltb places count) 10 passed) ⌝ }
 {
     if !rises {

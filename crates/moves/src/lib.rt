@@ -45,7 +45,7 @@ pub struct Moved {
 }
 
 // After a read the call goes on.
-pub fn reads(party: Party, write: Write) -> Moved
+fn reads(party: Party, write: Write) -> Moved
     ensures { λ r. ⌜ r ≡ reads party write ⌝ }
 {
     Moved {
@@ -57,7 +57,7 @@ pub fn reads(party: Party, write: Write) -> Moved
 }
 
 // After a read the call is answered.
-pub fn answers(party: Party, said: Said) -> Moved
+fn answers(party: Party, said: Said) -> Moved
     ensures { λ r. ⌜ r ≡ answers party said ⌝ }
 {
     Moved {
@@ -69,7 +69,7 @@ pub fn answers(party: Party, said: Said) -> Moved
 }
 
 // A swap on the next of a row is won.
-pub fn wins(party: Party, said: Said, row: u16, to: u16) -> Moved
+fn wins(party: Party, said: Said, row: u16, to: u16) -> Moved
     ensures { λ r. ⌜ r ≡ wins party said row to ⌝ }
 {
     Moved {
@@ -81,7 +81,7 @@ pub fn wins(party: Party, said: Said, row: u16, to: u16) -> Moved
 }
 
 // A swap is lost and changes no row.
-pub fn loses(party: Party) -> Moved
+fn loses(party: Party) -> Moved
     ensures { λ r. ⌜ r ≡ loses party ⌝ }
 {
     Moved {
@@ -93,7 +93,7 @@ pub fn loses(party: Party) -> Moved
 }
 
 // WALK below the key: past a removed row c moves alone, else p and n come along.
-pub fn onward(
+fn onward(
     kind: &[u8],
     key: &[u32],
     next: &[u16],
@@ -116,7 +116,7 @@ pub fn onward(
 }
 
 // The own row is linked to where the walk has ended, and the swap comes next.
-pub fn prepare(party: Party, call: Call, wanted: u32) -> Moved
+fn prepare(party: Party, call: Call, wanted: u32) -> Moved
     ensures { λ r. ⌜ r ≡ prepareOf party call wanted ⌝ }
 {
     let link = Write::Link(party.own, party.c);
@@ -124,7 +124,7 @@ pub fn prepare(party: Party, call: Call, wanted: u32) -> Moved
 }
 
 // An ADD that has landed.
-pub fn landed_add(
+fn landed_add(
     kind: &[u8],
     key: &[u32],
     next: &[u16],
@@ -149,7 +149,7 @@ pub fn landed_add(
 }
 
 // A REMOVE that has landed.
-pub fn landed_remove(
+fn landed_remove(
     kind: &[u8],
     key: &[u32],
     next: &[u16],
@@ -183,7 +183,7 @@ pub fn landed_remove(
 }
 
 // A landed row tells whether the key is there.
-pub fn verdict(
+fn verdict(
     kind: &[u8],
     key: &[u32],
     next: &[u16],
@@ -203,7 +203,7 @@ pub fn verdict(
     answers(party, Said::Yes)
 }
 
-pub fn walk(
+fn walk(
     kind: &[u8],
     key: &[u32],
     next: &[u16],
@@ -224,7 +224,7 @@ pub fn walk(
     }
 }
 
-pub fn skip(
+fn skip(
     kind: &[u8],
     key: &[u32],
     next: &[u16],
@@ -246,7 +246,7 @@ pub fn skip(
     prepare(party, call, wanted)
 }
 
-pub fn add_swap(
+fn add_swap(
     kind: &[u8],
     key: &[u32],
     next: &[u16],
@@ -263,7 +263,7 @@ pub fn add_swap(
     loses(party.backing(call, wanted, party.p))
 }
 
-pub fn mark(
+fn mark(
     kind: &[u8],
     key: &[u32],
     next: &[u16],
@@ -283,7 +283,7 @@ pub fn mark(
     loses(party.rereading(call, wanted, party.p, party.n, party.c))
 }
 
-pub fn reread(
+fn reread(
     kind: &[u8],
     key: &[u32],
     next: &[u16],
@@ -305,7 +305,7 @@ pub fn reread(
     )
 }
 
-pub fn clean(
+fn clean(
     kind: &[u8],
     key: &[u32],
     next: &[u16],
@@ -322,7 +322,7 @@ pub fn clean(
     loses(party.backing(call, wanted, party.p))
 }
 
-pub fn go_back(
+fn go_back(
     kind: &[u8],
     key: &[u32],
     next: &[u16],
@@ -341,7 +341,7 @@ pub fn go_back(
     reads(party.walking(call, wanted, party.p, n, n), Write::Keep)
 }
 
-pub fn look(
+fn look(
     kind: &[u8],
     key: &[u32],
     next: &[u16],

@@ -91,7 +91,7 @@ impl Party {
     }
 
     // The row that the party keeps when it has answered: an unpublished own, else none.
-    pub fn spare(self) -> u16
+    fn spare(self) -> u16
         ensures { λ r. ⌜ r ≡ spareOf self ⌝ }
     {
         if self.unpublished { self.own } else { 0 }
@@ -268,7 +268,7 @@ impl Party {
 }
 
 // A tally with one more; at the largest number it stays.
-pub fn one_more(tally: u32) -> u32
+fn one_more(tally: u32) -> u32
     ensures { λ r. ⌜ r ≡ oneMore 4294967295 tally ⌝ }
 {
     if tally < 4294967295 { tally + 1 } else { tally }

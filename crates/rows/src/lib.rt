@@ -38,7 +38,7 @@ impl Row {
     }
 
     // The rank of a row that is neither splice nor item: by its number alone.
-    pub fn end_rank(self) -> u64
+    fn end_rank(self) -> u64
         ensures { λ r. ⌜ r ≡ endRank (self .0) ⌝ }
     {
         let row = self.0;
@@ -91,7 +91,7 @@ pub enum Write {
 }
 
 // Writes all four entries of a row.
-pub fn write_row(
+fn write_row(
     kind: &mut [u8],
     key: &mut [u32],
     next: &mut [u16],
