@@ -1,2 +1,4 @@
--- The laws that the proofs of good form cite.
+-- Good form as facts, the laws that the proofs of the code cite, and that the contracts leave no choice.
 pub mod Laws
+pub mod Good
+pub mod Determined

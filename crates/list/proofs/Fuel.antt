@@ -7,15 +7,13 @@ use mathlib.Core.Logic.{⊎-elim}
 use Prim.Native.Nat.{ℕ, zero, suc, _+_, _-_, _≤_, _<_, min}
 use native.Mathlib.Nat.{eq-or-lt-of-le, le-of-suc-le-suc}
 use native.Mathlib.Omega.{arith}
-use lib.Dec.{eqb, ltb, leb}
-use lib.ListN.{length}
-use borrow.Author.Tests.{ltb-true, lt-ltb, leb-true, eqb-true}
-use Rattle.columns.specs.Column.{at}
-use Rattle.columns.proofs.Every.{and-left, and-right, every-at}
+use lib.Dec.{eqb, ltb}
+use borrow.Author.Tests.{ltb-true, lt-ltb}
+use Rattle.columns.proofs.Every.{and-right}
 use Rattle.rows.specs.Table.{Table, keyAt, nextAt, isSplice}
 use Rattle.rows.specs.Order.{rankAt}
 use Rattle.bare.specs.Bare.{Machine}
-use Rattle.form.specs.Form.{rowsIn, columnsAgree, takenFits, kindsFit, keysFit, linkFits, linksFit, countFits, partiesFit, talliesFit, goodForm}
+use Rattle.form.proofs.Good.{Good, good}
 use Rattle.list.specs.Chain.{behind, isLive, rises, withKey, liveFrom}
 use Rattle.list.specs.Claims.{FuelNeverDecides}
 
@@ -118,61 +116,16 @@ module _ (t : Table) (taken : ℕ) (links : (row : ℕ) → row < taken → next
 
 -- ---- good form keeps every next of a taken row among the taken rows
 
--- three of nine tests: the columns, the rows taken, the links
-of-nine : (a b c d e f g h i : Bool) → a && b && c && d && e && f && g && h && i ≡ true → (a ≡ true) × ((b ≡ true) × (e ≡ true))
-of-nine a b c d e f g h i all =
-    let five : a && b && c && d && e ≡ true =
-    and-left (a && b && c && d && e) f (and-left (a && b && c && d && e && f) g
-    (and-left (a && b && c && d && e && f && g) h (and-left (a && b && c && d && e && f && g && h) i all))) in
-    let two : a && b ≡ true = and-left (a && b) c (and-left (a && b && c) d (and-left (a && b && c && d) e five)) in
-    (and-left a b two, (and-right a b two, and-right (a && b && c && d) e five))
-
-three-facts : (m : Machine) → goodForm m ≡ true →
-    (columnsAgree (length (m .table .kind)) (length (m .table .key)) (length (m .table .next)) (length (m .table .back)) ≡ true)
-    × ((takenFits (m .state .taken) (rowsIn (m .table)) ≡ true) × (linksFit (m .table .next) (m .state .taken) ≡ true))
-unfolding goodForm
-three-facts m good =
-    of-nine
-    (columnsAgree (length (m .table .kind)) (length (m .table .key)) (length (m .table .next)) (length (m .table .back)))
-    (takenFits (m .state .taken) (rowsIn (m .table)))
-    (kindsFit (m .table .kind) (m .state .taken))
-    (keysFit (m .table .key) (m .state .taken))
-    (linksFit (m .table .next) (m .state .taken))
-    (linksFit (m .table .back) (m .state .taken))
-    (countFits (m .state .count))
-    (partiesFit (m .state))
-    (talliesFit (m .state .moves) (m .state .won) (m .state .lost))
-    good
-
-taken-fits : (taken rows : ℕ) → takenFits taken rows ≡ true → (4 ≤ taken) × (taken ≤ rows)
-taken-fits taken rows fits =
-    (leb-true 4 taken (and-left (leb 4 taken) (leb taken rows) fits), leb-true taken rows (and-right (leb 4 taken) (leb taken rows) fits))
-
-next-long : (kind key next back : ℕ) → columnsAgree kind key next back ≡ true → next ≡ kind
-next-long kind key next back agree =
-    eqb-true next kind (and-right (eqb key kind) (eqb next kind) (and-left (eqb key kind && eqb next kind) (eqb back kind) agree))
-
-link-below : (taken row to : ℕ) → row < taken → linkFits taken row to ≡ true → to < taken
-link-below taken row to inside fits = ltb-true to taken (rw (lt-ltb row taken inside) at fits)
-
-module _ (m : Machine) (good : goodForm m ≡ true) where
-  fits : (4 ≤ m .state .taken) × (m .state .taken ≤ rowsIn (m .table))
-  fits = taken-fits (m .state .taken) (rowsIn (m .table)) (three-facts m good .1 .0)
-
-  long : length (m .table .next) ≡ rowsIn (m .table)
-  long = next-long (rowsIn (m .table)) (length (m .table .key)) (length (m .table .next)) (length (m .table .back)) (three-facts m good .0)
-
-  good-links : (row : ℕ) → row < m .state .taken → nextAt (m .table) row < m .state .taken
-  unfolding linksFit
-  good-links row inside =
-      link-below (m .state .taken) row (nextAt (m .table) row) inside
-      (every-at (λ place. linkFits (m .state .taken) place (at (m .table .next) place)) (length (m .table .next)) (three-facts m good .1 .1) row
-      (omega (arith, fits, long)))
+good-links : (m : Machine) → Good m → (row : ℕ) → row < m .state .taken → nextAt (m .table) row < m .state .taken
+good-links m g row inside =
+    let fits = g .rows .nexts row (omega (arith, g .rows .room, g .rows .next-long)) in
+    ltb-true (nextAt (m .table) row) (m .state .taken) (rw (lt-ltb row (m .state .taken) inside) at fits)
 
 pub fuel-never-decides : FuelNeverDecides
-fuel-never-decides m more good =
-    let taken : ℕ = m .state .taken in (
-      same-answer (m .table) taken (good-links m good) taken (taken + more) 1 (omega arith) (omega (arith, fits m good))
+fuel-never-decides m more h =
+    let taken : ℕ = m .state .taken in
+    let g : Good m = good m h in (
+      same-answer (m .table) taken (good-links m g) taken (taken + more) 1 (omega arith) (omega (arith, g .rows .ends))
           (above-small (rankAt (m .table)) taken (rankAt (m .table) 1)),
       same-keys (m .table) taken (taken + more) 1 (omega arith),
     )

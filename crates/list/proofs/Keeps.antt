@@ -60,7 +60,7 @@ use Rattle.form.specs.Form.{
   recordFits,
   partyFits,
 }
-use Rattle.list.proofs.Good.{Each, Rows, Below, Fits, fits, record-fits}
+use Rattle.form.proofs.Good.{Each, Rows, Below, Fits, fits, record-fits}
 
 -- ---- writes
 

@@ -2,7 +2,7 @@
 -- Assumes nothing.
 use Prim.{tt}
 use mathlib.Core.Path.{_≡_, refl}
-use mathlib.Core.Bool.{Bool, true, false, not, cond, _&&_, _||_, true≢false, false≢true}
+use mathlib.Core.Bool.{Bool, true, false, not, cond, _&&_, _||_, true≢false, false≢true, or-true}
 use mathlib.Core.Logic.{_≢_, dite}
 use mathlib.Core.List.{_∷_}
 use Prim.Native.Nat.{ℕ, zero, suc, _+_, _<_, _≤_}
@@ -63,8 +63,9 @@ use Rattle.list.specs.Engine.{
   accepting,
   moveOf,
 }
+use Rattle.list.proofs.Laws.{neither}
 use Rattle.list.specs.Claims.{SetUpIsGood, CallKeeps, MoveKeeps}
-use Rattle.list.proofs.Good.{two, Each, Rows, Fits, fits, Good, good, good-form}
+use Rattle.form.proofs.Good.{two, Each, Rows, Fits, fits, Good, good, good-form}
 use Rattle.list.proofs.Keeps.{row-keeps, item-fits, write-keeps, party-keeps, FitMove, move-fits}
 
 -- ---- what the tests tell
@@ -123,14 +124,6 @@ fresh-rows (suc (suc (suc (suc rows)))) enough =
       nexts = four-and-zeros (linkFits 4) 1 2 3 3 rows refl refl refl refl (λ row past. rw (le-ltb row 4 past));
       backs = four-and-zeros (linkFits 4) 0 0 0 0 rows refl refl refl refl (λ row past. rw (le-ltb row 4 past));
     }
-
-neither : (a b : Bool) → a || b ≡ false → (a ≡ false) × (b ≡ false)
-neither true b h = absurd (true≢false h)
-neither false b h = (refl, h)
-
-or-true : (a : Bool) → a || true ≡ true
-or-true true = refl
-or-true false = refl
 
 blank-at : (parties i : ℕ) → getD (replicate parties blank) i blank ≡ blank
 blank-at zero i = refl

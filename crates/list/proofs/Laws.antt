@@ -70,9 +70,10 @@ form-told : (m : Machine) (asked : Verdict) {verdict found : Verdict} {asks : Te
     verdictIs asked ≡ asks → verdictIs verdict ≡ formTests m (verdictIs asked) → verdict ≡ found → formTests m asks ≡ verdictIs found
 form-told m asked asks forms is = tests-told (forms ∙ ap (formTests m) asks) is
 
-or-right : (a b : Bool) → a || b ≡ false → b ≡ false
-or-right true b h = absurd (true≢false h)
-or-right false b h = h
+-- where neither of two tests held
+pub neither : (a b : Bool) → a || b ≡ false → (a ≡ false) × (b ≡ false)
+neither true b h = absurd (true≢false h)
+neither false b h = (refl, h)
 
 -- ---- set-up
 
@@ -93,7 +94,7 @@ module _ (t : Table) (parties : ℕ) where
 
   -- then the number of parties is small
   pub few-parties : setUpTests t parties ≡ passed → parties ≤ 16
-  few-parties passes = ltb-false 16 parties (or-right (eqb parties 0) (ltb 16 parties) (parties-pass passes))
+  few-parties passes = ltb-false 16 parties (neither (eqb parties 0) (ltb 16 parties) (parties-pass passes) .1)
 
   -- four columns, each fresh by its own length, are the fresh table of so many rows
   fresh-so : {t′ : Table} → badTable t ≡ false →

@@ -1,2 +1,3 @@
--- The laws that the proofs of the rows cite.
+-- The laws that the proofs of the rows cite, and that the contracts leave no choice.
 pub mod Laws
+pub mod Determined

@@ -1,0 +1,18 @@
+-- The contracts of the bare call and the bare move leave one outcome each.
+-- Assumes nothing.
+use Rattle.outcome.specs.Outcome.{OneOutcome}
+use Rattle.outcome.proofs.Laws.{by-equation}
+use Rattle.rows.specs.Table.{tab}
+use Rattle.bare.specs.Bare.{machine, stepped}
+use Rattle.bare.proofs.call.Reads as call
+use Rattle.bare.proofs.step.Reads as step
+
+-- the columns and the state after a call
+pub call-fixed : OneOutcome call.Post
+    (λ κs answer exit. machine (tab (exit .0 .now) (exit .1 .0 .now) (exit .1 .1 .0 .now) (exit .1 .1 .1 .0 .now)) answer)
+call-fixed κs given answer₁ answer₂ exit₁ exit₂ = by-equation
+
+-- the columns and the state after a move, and what is said
+pub step-fixed : OneOutcome step.Post
+    (λ κs answer exit. stepped (machine (tab (exit .0 .now) (exit .1 .0 .now) (exit .1 .1 .0 .now) (exit .1 .1 .1 .0 .now)) (answer .state)) (answer .said))
+step-fixed κs given answer₁ answer₂ exit₁ exit₂ = by-equation
