@@ -5,4 +5,5 @@ pub mod Keeps
 pub mod Kept
 pub mod Fuel
 pub mod Promises
+pub mod Examples
 pub mod Determined

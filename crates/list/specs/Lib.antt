@@ -3,3 +3,5 @@ pub mod Chain
 pub mod Engine
 pub mod Answers
 pub mod Claims
+pub mod Run
+pub mod Examples

@@ -57,12 +57,12 @@ fn reads(party: Party, write: Write) -> Moved
 }
 
 // After a read the call is answered.
-fn answers(party: Party, said: Said) -> Moved
-    ensures { λ r. ⌜ r ≡ answers party said ⌝ }
+fn answers(party: Party, answer: Said) -> Moved
+    ensures { λ r. ⌜ r ≡ answers party answer ⌝ }
 {
     Moved {
         party: party.idling(),
-        said,
+        said: answer,
         access: Access::Read,
         write: Write::Keep,
     }
@@ -183,14 +183,7 @@ fn landed_remove(
 }
 
 // A landed row tells whether the key is there.
-fn verdict(
-    kind: &[u8],
-    key: &[u32],
-    next: &[u16],
-    back: &[u16],
-    party: Party,
-    wanted: u32,
-) -> Moved
+fn verdict(kind: &[u8], key: &[u32], next: &[u16], back: &[u16], party: Party, wanted: u32) -> Moved
     ensures { λ r. ⌜ r ≡ verdictOf (tab (now (kind .entry)) (now (key .entry)) (now (next .entry)) (now (back .entry))) party wanted ⌝ }
 {
     let s = read_u16(next, party.c);

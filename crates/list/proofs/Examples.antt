@@ -1,0 +1,27 @@
+-- The examples, each computed by the checker.
+-- Assumes nothing.
+use mathlib.Core.Path.{refl}
+use Rattle.rows.specs.Order.{rank}
+use Rattle.moves.specs.Moves.{prepareOf, onwardOf, landedAddOf, landedRemoveOf, verdictOf, walkOf, skipOf, addSwapOf, markOf, rereadOf, cleanOf, backOf, lookOf}
+use Rattle.bare.specs.Bare.{begunOf, bareCallOf, bareMoveOf}
+use Rattle.form.specs.Form.{kindsFit, keysFit, linksFit, recordFits, partiesFit, goodForm}
+use Rattle.list.specs.Chain.{rises, liveFrom}
+use Rattle.list.specs.Engine.{setUpOf, callOf, moveOf, listOf}
+use Rattle.list.specs.Run.{after, replies}
+use Rattle.list.specs.Examples.{Examples}
+
+pub examples : Examples
+unfolding after replies setUpOf callOf moveOf listOf rises liveFrom goodForm kindsFit keysFit linksFit recordFits partiesFit bareCallOf begunOf bareMoveOf walkOf onwardOf landedAddOf landedRemoveOf verdictOf prepareOf skipOf addSwapOf markOf rereadOf cleanOf backOf lookOf rank
+examples = (
+  (refl, refl, refl),
+  (refl, refl),
+  refl,
+  refl,
+  (refl, refl),
+  refl,
+  (refl, refl, refl),
+  (refl, refl),
+  (refl, refl),
+  (refl, refl, refl, refl, refl, refl, refl),
+  (refl, refl, refl, refl, refl),
+)

@@ -1,0 +1,50 @@
+-- Calls and moves one after another, for examples: the state that they leave and what each is answered.
+use mathlib.Core.List.{List, [], _∷_}
+use mathlib.Core.Bool.{true}
+use Prim.Native.Nat.{ℕ}
+use lib.ListN.{replicate}
+use Rattle.refusal.specs.Answer.{Answer, accepted, refused, Left, Tests}
+use Rattle.rows.specs.Table.{tab}
+use Rattle.moves.specs.declared.Said.{Said}
+use Rattle.moves.specs.declared.Said.the-variants.{Nothing, Yes, No}
+use Rattle.bare.specs.Bare.{Machine}
+use Rattle.list.specs.Engine.{setUpOf, callOf, moveOf}
+
+-- what is asked of the engine: a call of a party by its code and key, or a move
+pub data Asked : Type 0 where
+  calls : (party code key : ℕ) → Asked
+  moves : (party : ℕ) → Asked
+
+-- an accepted call says nothing
+abbrev pub quiet : Tests → Answer Said
+quiet (accepted done) = accepted Nothing
+quiet (refused number) = refused number
+
+abbrev pub asked : Machine → Asked → Left Machine Said
+asked m (calls party code key) =
+    record { memory = callOf m party code key .memory; answer = quiet (callOf m party code key .answer) }
+asked m (moves party) = moveOf m party
+
+-- the state after all of them
+unfoldable pub after : Machine → List Asked → Machine
+after m [] = m
+after m (first ∷ rest) = after (asked m first .memory) rest
+
+-- what each of them is answered
+unfoldable pub replies : Machine → List Asked → List (Answer Said)
+replies m [] = []
+replies m (first ∷ rest) = asked m first .answer ∷ replies (asked m first .memory) rest
+
+-- the answers by short names
+abbrev pub going : Answer Said
+going = accepted Nothing
+
+abbrev pub yes : Answer Said
+yes = accepted Yes
+
+abbrev pub no : Answer Said
+no = accepted No
+
+-- a fresh list in columns of so many rows, whatever stood there, here zeros
+abbrev pub fresh : (rows parties : ℕ) → Machine
+fresh rows parties = setUpOf (tab (replicate rows 0) (replicate rows 0) (replicate rows 0) (replicate rows 0)) parties .memory
