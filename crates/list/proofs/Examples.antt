@@ -2,7 +2,7 @@
 -- Assumes nothing.
 use mathlib.Core.Path.{refl}
 use Rattle.rows.specs.Order.{rank}
-use Rattle.moves.specs.Moves.{prepareOf, onwardOf, landedAddOf, landedRemoveOf, verdictOf, walkOf, skipOf, addSwapOf, markOf, rereadOf, cleanOf, backOf, lookOf}
+use Rattle.moves.specs.Moves.{prepareOf, onwardOf, landedAddOf, landedRemoveOf, landedContainsOf, walkOf, skipOf, addSwapOf, markOf, rereadOf, cleanOf, backOf, lookOf}
 use Rattle.bare.specs.Bare.{begunOf, bareCallOf, bareMoveOf}
 use Rattle.form.specs.Form.{kindsFit, keysFit, linksFit, recordFits, partiesFit, goodForm}
 use Rattle.list.specs.Chain.{rises, liveFrom}
@@ -11,7 +11,7 @@ use Rattle.list.specs.Run.{after, replies}
 use Rattle.list.specs.Examples.{Examples}
 
 pub examples : Examples
-unfolding after replies setUpOf callOf moveOf listOf rises liveFrom goodForm kindsFit keysFit linksFit recordFits partiesFit bareCallOf begunOf bareMoveOf walkOf onwardOf landedAddOf landedRemoveOf verdictOf prepareOf skipOf addSwapOf markOf rereadOf cleanOf backOf lookOf rank
+unfolding after replies setUpOf callOf moveOf listOf rises liveFrom goodForm kindsFit keysFit linksFit recordFits partiesFit bareCallOf begunOf bareMoveOf walkOf onwardOf landedAddOf landedRemoveOf landedContainsOf prepareOf skipOf addSwapOf markOf rereadOf cleanOf backOf lookOf rank
 examples = (
   (refl, refl, refl),
   (refl, refl),

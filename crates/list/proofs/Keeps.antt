@@ -2,7 +2,7 @@
 -- Assumes nothing.
 use Prim.{Unit, tt}
 use mathlib.Core.Path.{_≡_, refl, _∙_}
-use mathlib.Core.Bool.{Bool, true, false, not, cond, _&&_, false≢true}
+use mathlib.Core.Bool.{Bool, true, false, not, cond, _&&_, _||_, false≢true}
 use mathlib.Core.Logic.{_≢_, dite}
 use mathlib.Core.List.{List}
 use Prim.Native.Nat.{ℕ, _<_, _≤_}
@@ -34,7 +34,7 @@ use Rattle.moves.specs.Moves.{
   onwardOf,
   landedAddOf,
   landedRemoveOf,
-  verdictOf,
+  landedContainsOf,
   walkOf,
   skipOf,
   addSwapOf,
@@ -238,7 +238,7 @@ module _ (T : ℕ) (t : Table) (g : Rows T t) where
         let no : FitMove T (answers (who (Walk Remove k) true) No) = answer-fits (who (Walk Remove k) true) No (f .below .own) from in
         either (belowKey t c k)
         (either (isSplice t (nextAt t c)) (fit tt (omega arith) no-r refl (f .keeps-own)) (fit tt (omega arith) no-r refl (f .keeps-own)))
-        (either (not (equalsKey t c k)) no (either (isSplice t (nextAt t c)) no (fit (omega arith) (omega arith) refl refl (f .keeps-own))))
+        (either (not (equalsKey t c k) || isSplice t (nextAt t c)) no (fit (omega arith) (omega arith) refl refl (f .keeps-own)))
 
     walk-marked : (k : ℕ) → Fits T (who (Walk Remove k) false) → FitMove T (walkOf t (who (Walk Remove k) false) Remove k)
     unfolding walkOf onwardOf landedRemoveOf
@@ -294,14 +294,15 @@ module _ (T : ℕ) (t : Table) (g : Rows T t) where
         either (isSplice t (nextAt t p)) (fit tt (omega arith) refl refl (f .keeps-own)) (fit tt (omega arith) refl refl (f .keeps-own))
 
     look : (k : ℕ) (unpublished : Bool) → Fits T (who (Look Contains k) unpublished) → FitMove T (lookOf t (who (Look Contains k) unpublished) Contains k)
-    unfolding lookOf verdictOf
+    unfolding lookOf landedContainsOf
     look k unpublished f =
         let s₁ : nextAt t c < T = next-below c (f .below .c) in
         let s₂ : nextAt t (nextAt t c) < T = next-below (nextAt t c) s₁ in
         let says : (said : Said) → FitMove T (answers (who (Look Contains k) unpublished) said) =
         λ said. answer-fits (who (Look Contains k) unpublished) said (f .below .own) (f .keeps-own) in
-        either (not (belowKey t c k)) (either (not (equalsKey t c k)) (says No) (either (isSplice t (nextAt t c)) (says No) (says Yes)))
+        either (belowKey t c k)
         (either (isSplice t (nextAt t c)) (fit tt (omega arith) refl refl (f .keeps-own)) (fit tt (omega arith) refl refl (f .keeps-own)))
+        (either (equalsKey t c k && not (isSplice t (nextAt t c))) (says Yes) (says No))
 
     walk : (k : ℕ) (call : Call) (unpublished : Bool) → Fits T (who (Walk call k) unpublished) → FitMove T (walkOf t (who (Walk call k) unpublished) call k)
     walk k Add true f = walk-add k f

@@ -1,5 +1,5 @@
 -- The moves, one definition for each place (document 01, "The moves").
-use mathlib.Core.Bool.{Bool, true, false, not, cond, _&&_}
+use mathlib.Core.Bool.{not, cond, _&&_, _||_}
 use Prim.Native.Nat.{ℕ}
 use lib.Dec.{eqb}
 use Rattle.party.specs.declared.Call.{Call}
@@ -59,26 +59,24 @@ module _ (t : Table) (q : Party) where
       (cond (equalsKey t (q .c) k) (answers q No)
       (prepareOf q Add k))
 
-  -- WALK, a REMOVE has landed. It is marked exactly if its own is published; then it only looks whether its splice still stands.
+  -- WALK, a REMOVE has landed; it is marked exactly if its own is published. Marked: where its splice is gone somebody has cleaned up, and
+  -- the answer is yes. Not yet marked: another key or a removed row means no, else own becomes a splice that leads on to s and back to p.
   unfoldable pub landedRemoveOf : ℕ → Moved
   landedRemoveOf k =
       cond (not (q .unpublished))
       (cond (eqb s-of-c (q .own)) (reads (cleaning q Remove k (q .p) (q .n) (q .r)) Keep) (answers q Yes))
-      (cond (not (equalsKey t (q .c) k)) (answers q No)
-      (cond (isSplice t s-of-c) (answers q No)
-      (reads (marking q Remove k (q .p) (q .n) (q .c) s-of-c) (Splice (q .own) s-of-c (q .p)))))
+      (cond (not (equalsKey t (q .c) k) || isSplice t s-of-c) (answers q No)
+      (reads (marking q Remove k (q .p) (q .n) (q .c) s-of-c) (Splice (q .own) s-of-c (q .p))))
 
   -- a CONTAINS has landed: yes exactly if c equals the key and is not removed
-  unfoldable pub verdictOf : ℕ → Moved
-  verdictOf k =
-      cond (not (equalsKey t (q .c) k)) (answers q No)
-      (cond (isSplice t s-of-c) (answers q No) (answers q Yes))
+  unfoldable pub landedContainsOf : ℕ → Moved
+  landedContainsOf k = cond (equalsKey t (q .c) k && not (isSplice t s-of-c)) (answers q Yes) (answers q No)
 
   -- no CONTAINS comes to WALK; if a state outside good form says so, it lands as at LOOK
   abbrev pub landedOf : Call → ℕ → Moved
   landedOf Add k = landedAddOf k
   landedOf Remove k = landedRemoveOf k
-  landedOf Contains k = verdictOf k
+  landedOf Contains k = landedContainsOf k
 
   -- WALK: on while c is below the key
   unfoldable pub walkOf : Call → ℕ → Moved
@@ -119,8 +117,9 @@ module _ (t : Table) (q : Party) where
   -- LOOK: on while c is below the key, through splices
   unfoldable pub lookOf : Call → ℕ → Moved
   lookOf call k =
-      cond (not (belowKey t (q .c) k)) (verdictOf k)
+      cond (belowKey t (q .c) k)
       (cond (isSplice t s-of-c) (reads (looking q call k (nextAt t s-of-c)) Keep) (reads (looking q call k s-of-c) Keep))
+      (landedContainsOf k)
 
 -- the move of a party at its place; an idle party makes no access
 abbrev pub placeOf : Place → Table → Party → Moved

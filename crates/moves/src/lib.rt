@@ -17,7 +17,7 @@ ghost use Rattle.moves.specs.Moves.{
   prepareOf,
   landedAddOf,
   landedRemoveOf,
-  verdictOf,
+  landedContainsOf,
   walkOf,
   skipOf,
   addSwapOf,
@@ -169,10 +169,8 @@ fn landed_remove(
         }
         return answers(party, Said::Yes);
     }
-    if !Row(party.c).equals_key(kind, key, wanted) {
-        return answers(party, Said::No);
-    }
-    if Row(s).is_splice(kind) {
+    let differs = !Row(party.c).equals_key(kind, key, wanted);
+    if differs | Row(s).is_splice(kind) {
         return answers(party, Said::No);
     }
     let splice = Write::Splice(party.own, s, party.p);
@@ -182,18 +180,23 @@ fn landed_remove(
     )
 }
 
-// A landed row tells whether the key is there.
-fn verdict(kind: &[u8], key: &[u32], next: &[u16], back: &[u16], party: Party, wanted: u32) -> Moved
-    ensures { λ r. ⌜ r ≡ verdictOf (tab (now (kind .entry)) (now (key .entry)) (now (next .entry)) (now (back .entry))) party wanted ⌝ }
+// A CONTAINS that has landed.
+fn landed_contains(
+    kind: &[u8],
+    key: &[u32],
+    next: &[u16],
+    back: &[u16],
+    party: Party,
+    wanted: u32,
+) -> Moved
+    ensures { λ r. ⌜ r ≡ landedContainsOf (tab (now (kind .entry)) (now (key .entry)) (now (next .entry)) (now (back .entry))) party wanted ⌝ }
 {
     let s = read_u16(next, party.c);
-    if !Row(party.c).equals_key(kind, key, wanted) {
-        return answers(party, Said::No);
+    let equal = Row(party.c).equals_key(kind, key, wanted);
+    if equal & !Row(s).is_splice(kind) {
+        return answers(party, Said::Yes);
     }
-    if Row(s).is_splice(kind) {
-        return answers(party, Said::No);
-    }
-    answers(party, Said::Yes)
+    answers(party, Said::No)
 }
 
 fn walk(
@@ -213,7 +216,7 @@ fn walk(
     match call {
         Call::Add => landed_add(kind, key, next, back, party, wanted),
         Call::Remove => landed_remove(kind, key, next, back, party, wanted),
-        Call::Contains => verdict(kind, key, next, back, party, wanted),
+        Call::Contains => landed_contains(kind, key, next, back, party, wanted),
     }
 }
 
@@ -345,15 +348,15 @@ fn look(
 ) -> Moved
     ensures { λ r. ⌜ r ≡ lookOf (tab (now (kind .entry)) (now (key .entry)) (now (next .entry)) (now (back .entry))) party call wanted ⌝ }
 {
-    if !Row(party.c).below_key(kind, key, wanted) {
-        return verdict(kind, key, next, back, party, wanted);
-    }
     let s = read_u16(next, party.c);
-    if Row(s).is_splice(kind) {
-        let beyond = read_u16(next, s);
-        return reads(party.looking(call, wanted, beyond), Write::Keep);
+    if Row(party.c).below_key(kind, key, wanted) {
+        if Row(s).is_splice(kind) {
+            let beyond = read_u16(next, s);
+            return reads(party.looking(call, wanted, beyond), Write::Keep);
+        }
+        return reads(party.looking(call, wanted, s), Write::Keep);
     }
-    reads(party.looking(call, wanted, s), Write::Keep)
+    landed_contains(kind, key, next, back, party, wanted)
 }
 
 // The move of a party at its place; an idle one makes no access.

@@ -19,7 +19,7 @@ remove c = rw (← c .before .before .before .before .below-key .ensures, c .bef
 
 contains : tie.Need-returns-4
 unfolding walkOf
-contains c = rw (← c .before .before .before .before .below-key .ensures, c .before .before .before .if1 .left, c .before .enum-told3 .given .1, c .verdict .ensures)
+contains c = rw (← c .before .before .before .before .below-key .ensures, c .before .before .before .if1 .left, c .before .enum-told3 .given .1, c .landed-contains .ensures)
 
 pub walk-spec : {M : Type 1} → statement M
 walk-spec = tie.close (tie.spec (λ c κs. search needs) (λ c κs. search needs) below (λ c. search needs) (λ c κs. search needs) (λ c. search needs) (λ c κs. search needs) (λ c. search needs) (λ c κs. search needs) add remove contains)
