@@ -5,7 +5,7 @@ use Rattle.rows.specs.Order.{rank}
 use Rattle.moves.specs.Moves.{prepareOf, onwardOf, landedAddOf, landedRemoveOf, landedContainsOf, walkOf, skipOf, addSwapOf, markOf, rereadOf, cleanOf, backOf, lookOf}
 use Rattle.bare.specs.Bare.{begunOf, bareCallOf, bareMoveOf}
 use Rattle.form.specs.Form.{kindsFit, keysFit, linksFit, recordFits, partiesFit, goodForm}
-use Rattle.list.specs.Chain.{rises, liveFrom}
+use Rattle.chain.specs.Chain.{rises, liveFrom}
 use Rattle.list.specs.Engine.{setUpOf, callOf, moveOf, listOf}
 use Rattle.list.specs.Run.{after, replies}
 use Rattle.list.specs.Examples.{Examples}

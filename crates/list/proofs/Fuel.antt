@@ -14,7 +14,7 @@ use Rattle.rows.specs.Table.{Table, keyAt, nextAt, isSplice}
 use Rattle.rows.specs.Order.{rankAt}
 use Rattle.bare.specs.Bare.{Machine}
 use Rattle.form.proofs.Good.{Good, good}
-use Rattle.list.specs.Chain.{behind, isLive, rises, withKey, liveFrom}
+use Rattle.chain.specs.Chain.{behind, isLive, rises, withKey, liveFrom}
 use Rattle.list.specs.Claims.{FuelNeverDecides}
 
 -- ---- how many of the first rows have a rank above a bound

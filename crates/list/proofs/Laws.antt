@@ -26,7 +26,7 @@ use Rattle.party.specs.declared.State.{State}
 use Rattle.moves.specs.declared.Said.{Said}
 use Rattle.bare.specs.Bare.{Machine, machine, stepped, bareCallOf, bareMoveOf}
 use Rattle.form.specs.Form.{rowsIn, columnsAgree, goodForm}
-use Rattle.list.specs.Chain.{rises, liveFrom}
+use Rattle.chain.specs.Chain.{rises, liveFrom}
 use Rattle.list.specs.Engine.{
   badTable,
   formTests,

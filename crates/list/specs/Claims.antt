@@ -11,7 +11,7 @@ use Rattle.form.specs.Form.{rowsIn, goodForm}
 use Rattle.list.specs.declared.Reply.{Reply}
 use Rattle.list.specs.declared.Listed.{Listed}
 use Rattle.list.specs.Answers.{replyIs, listedIs}
-use Rattle.list.specs.Chain.{rises, liveFrom}
+use Rattle.chain.specs.Chain.{rises, liveFrom}
 use Rattle.list.specs.Engine.{badTable, restingState, setUpOf, callNamed, callAsks, callOf, moveAsks, accepting, moveOf, listOf}
 
 -- ---- good form is kept

@@ -15,7 +15,7 @@ use Rattle.party.specs.Party.{blank, partyAt}
 use Rattle.moves.specs.declared.Said.{Said}
 use Rattle.bare.specs.Bare.{Machine, machine, Stepped, bareCallOf, bareMoveOf}
 use Rattle.form.specs.Form.{rowsIn, columnsAgree, isIdle, isContains, goodForm}
-use Rattle.list.specs.Chain.{rises, liveFrom}
+use Rattle.chain.specs.Chain.{rises, liveFrom}
 
 -- ---- tests that several entry points share
 

@@ -1,9 +1,9 @@
 // The entry points of the list: set-up, call, move and listing, each with its refusals in their order.
-use crate::chain::chain_rises;
-use crate::chain::live_count;
-use crate::chain::write_live;
 use crate::fresh::fresh_table;
 use crate::fresh::resting_state;
+use chain::chain_rises;
+use chain::live_count;
+use chain::write_live;
 use form::good_form;
 use form::is_contains;
 use form::is_idle;
@@ -37,7 +37,6 @@ ghost use Rattle.list.specs.Engine.{
 };
 ghost use Rattle.list.specs.Answers.{afterIs, stepIs, listedIs};
 
-mod chain;
 mod fresh;
 
 // What a set-up or a call hands back: the state, and whether it was accepted.

@@ -5,13 +5,14 @@ use Prim.Native.Nat.{_≤_}
 use native.Mathlib.Omega.{arith}
 use Rattle.refusal.proofs.Told.{tests-told}
 use Rattle.rows.specs.Table.{tab}
+use Rattle.list.specs.Engine.{setUpTests}
 use Rattle.list.proofs.Laws.{few-parties, set-up-accepts, set-up-refuses}
 use borrow.Author.Needs.{needs}
 use Rattle.list.proofs.set_up.Statement.{statement}
 use Rattle.list.proofs.set_up.Tie as tie
 
 small : tie.Need-cast-resting-state
-small c = let a = c .before .before .before .before .before .before .before .before .before .before .before .before .before .before .before .before .before .before .before .before .args in let few : a .parties ≤ 16 = few-parties (tab (a .kind .now) (a .key .now) (a .next .now) (a .back .now)) (a .parties) (tests-told (c .before .before .before .before .before .before .before .before .before .before .before .before .before .before .before .set-up-verdict .ensures) (c .before .before .before .before .before .before .before .before .before .before .before .before .before .enum-told .given .1)) in omega (arith, few)
+small c = let a = c .before .before .before .before .before .before .before .before .before .before .before .before .before .before .before .before .before .before .before .before .args in let few : a .parties ≤ 16 = few-parties (tab (a .kind .now) (a .key .now) (a .next .now) (a .back .now)) (a .parties) (tests-told {tests = setUpTests (tab (a .kind .now) (a .key .now) (a .next .now) (a .back .now)) (a .parties)} (c .before .before .before .before .before .before .before .before .before .before .before .before .before .before .before .set-up-verdict .ensures) (c .before .before .before .before .before .before .before .before .before .before .before .before .before .enum-told .given .1)) in omega (arith, few)
 
 accepted : tie.Need-returns
 accepted c = set-up-accepts _ _ (c .before .before .before .before .before .before .before .before .before .before .before .before .before .before .before .before .set-up-verdict .ensures) (c .before .before .before .before .before .before .before .before .before .before .before .before .before .before .enum-told .given .1) (c .before .before .before .before .before .before .before .before .before .fresh-table .ensures) (c .resting-state .ensures)

@@ -7,11 +7,11 @@ use native.Mathlib.Omega.{arith}
 use native.Mathlib.Nat.{zero-add, add-zero}
 use lib.ListN.{length}
 use Rattle.rows.specs.Table.{Table, tab}
-use Rattle.list.specs.Chain.{liveFrom}
-use Rattle.list.proofs.Walk.{live-none, live-end, count-on, one-at-most}
+use Rattle.chain.specs.Chain.{liveFrom}
+use Rattle.chain.proofs.Walk.{live-none, live-end, count-on, one-at-most}
 use borrow.Author.Needs.{needs}
-use Rattle.list.proofs.chain.live_count.Statement.{statement}
-use Rattle.list.proofs.chain.live_count.Tie as tie
+use Rattle.chain.proofs.live_count.Statement.{statement}
+use Rattle.chain.proofs.live_count.Tie as tie
 
 abbrev Inv-loop : tie.InvT-loop
 Inv-loop kind key next back taken row₀ left₀ count₀ row left count = (count + left ≤ taken) × (length (liveFrom (tab kind key next back) taken 1) ≡ count + length (liveFrom (tab kind key next back) left row))

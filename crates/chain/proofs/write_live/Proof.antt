@@ -7,11 +7,11 @@ use native.Mathlib.Omega.{arith}
 use lib.ListN.{length}
 use lib.Seq.{sets}
 use Rattle.rows.specs.Table.{Table, tab}
-use Rattle.list.specs.Chain.{liveFrom}
-use Rattle.list.proofs.Walk.{live-none, live-end, put-on, one-at-most}
+use Rattle.chain.specs.Chain.{liveFrom}
+use Rattle.chain.proofs.Walk.{live-none, live-end, put-on, one-at-most}
 use borrow.Author.Needs.{needs}
-use Rattle.list.proofs.chain.write_live.Statement.{statement}
-use Rattle.list.proofs.chain.write_live.Tie as tie
+use Rattle.chain.proofs.write_live.Statement.{statement}
+use Rattle.chain.proofs.write_live.Tie as tie
 
 abbrev Inv-loop : tie.InvT-loop
 Inv-loop kind key next back taken places₀ row₀ left₀ place₀ places row left place = (place + left ≤ taken) × (length places ≡ length places₀) × (sets places₀ 0 (liveFrom (tab kind key next back) taken 1) ≡ sets places place (liveFrom (tab kind key next back) left row))

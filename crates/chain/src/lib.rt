@@ -8,10 +8,10 @@ ghost use mathlib.Core.Bool.{cond};
 ghost use lib.ListN.{length, set};
 ghost use lib.Seq.{sets};
 ghost use Rattle.rows.specs.Table.{tab};
-ghost use Rattle.list.specs.Chain.{behind, isLive, oneIf, rises, liveFrom};
+ghost use Rattle.chain.specs.Chain.{behind, isLive, oneIf, rises, liveFrom};
 
 // The row behind a row: its next, or through a splice the splice's next.
-pub(crate) fn row_behind(kind: &[u8], key: &[u32], next: &[u16], back: &[u16], row: u16) -> u16
+fn row_behind(kind: &[u8], key: &[u32], next: &[u16], back: &[u16], row: u16) -> u16
     ensures { λ r. ⌜ r ≡ behind (tab (now (kind .entry)) (now (key .entry)) (now (next .entry)) (now (back .entry))) row ⌝ }
 {
     let s = read_u16(next, row);
@@ -22,7 +22,7 @@ pub(crate) fn row_behind(kind: &[u8], key: &[u32], next: &[u16], back: &[u16], r
 }
 
 // Whether the row is an item that nobody has removed.
-pub(crate) fn is_live(kind: &[u8], key: &[u32], next: &[u16], back: &[u16], row: u16) -> bool
+fn is_live(kind: &[u8], key: &[u32], next: &[u16], back: &[u16], row: u16) -> bool
     ensures { λ r. ⌜ r ≡ isLive (tab (now (kind .entry)) (now (key .entry)) (now (next .entry)) (now (back .entry))) row ⌝ }
 {
     let s = read_u16(next, row);
@@ -30,7 +30,7 @@ pub(crate) fn is_live(kind: &[u8], key: &[u32], next: &[u16], back: &[u16], row:
 }
 
 // Whether the chain rises strictly from row 1 to row 2, in at most so many rows.
-pub(crate) fn chain_rises(kind: &[u8], key: &[u32], next: &[u16], back: &[u16], taken: u16) -> bool
+pub fn chain_rises(kind: &[u8], key: &[u32], next: &[u16], back: &[u16], taken: u16) -> bool
     ensures { λ r. ⌜ r ≡ rises (tab (now (kind .entry)) (now (key .entry)) (now (next .entry)) (now (back .entry))) taken 1 ⌝ }
 {
     let mut row = Row::HEAD_NXT;
@@ -50,14 +50,14 @@ pub(crate) fn chain_rises(kind: &[u8], key: &[u32], next: &[u16], back: &[u16], 
 }
 
 // One for a key that counts.
-pub(crate) fn one_if(live: bool) -> usize
+fn one_if(live: bool) -> usize
     ensures { λ r. ⌜ r ≡ oneIf live ⌝ }
 {
     if live { 1 } else { 0 }
 }
 
 // How many live keys are on the chain from row 1 to row 2.
-pub(crate) fn live_count(kind: &[u8], key: &[u32], next: &[u16], back: &[u16], taken: u16) -> usize
+pub fn live_count(kind: &[u8], key: &[u32], next: &[u16], back: &[u16], taken: u16) -> usize
     ensures { λ r. ⌜ r ≡ length (liveFrom (tab (now (kind .entry)) (now (key .entry)) (now (next .entry)) (now (back .entry))) taken 1) ⌝ }
 {
     let mut row = Row::HEAD_NXT;
@@ -75,7 +75,7 @@ pub(crate) fn live_count(kind: &[u8], key: &[u32], next: &[u16], back: &[u16], t
 }
 
 // Writes a key that counts at a place; past the last place nothing is written.
-pub(crate) fn put_if(live: bool, places: &mut [u32], place: usize, wanted: u32)
+fn put_if(live: bool, places: &mut [u32], place: usize, wanted: u32)
     ensures { λ r. ⌜ now (places .exit) ≡ cond live (set (now (places .entry)) place wanted) (now (places .entry)) ⌝ }
 {
     if live {
@@ -86,7 +86,7 @@ pub(crate) fn put_if(live: bool, places: &mut [u32], place: usize, wanted: u32)
 }
 
 // Writes the live keys on the chain from row 1 to row 2 into the first places; past the last place nothing is written.
-pub(crate) fn write_live(
+pub fn write_live(
     kind: &[u8],
     key: &[u32],
     next: &[u16],

@@ -1,8 +1,8 @@
 -- `row_behind` passes through a splice.
 -- Assumes nothing.
 use borrow.Author.Needs.{needs}
-use Rattle.list.proofs.chain.row_behind.Statement.{statement}
-use Rattle.list.proofs.chain.row_behind.Tie as tie
+use Rattle.chain.proofs.row_behind.Statement.{statement}
+use Rattle.chain.proofs.row_behind.Tie as tie
 
 through : tie.Need-returns
 through c = rw (← c .before .before .before .read-u16 .ensures, ← c .before .before .is-splice .ensures, c .before .if1 .taken) (c .read-u162 .ensures)

@@ -1,8 +1,8 @@
 -- `is_live` tests for an item that is not removed.
 -- Assumes nothing.
 use borrow.Author.Needs.{needs}
-use Rattle.list.proofs.chain.is_live.Statement.{statement}
-use Rattle.list.proofs.chain.is_live.Tie as tie
+use Rattle.chain.proofs.is_live.Statement.{statement}
+use Rattle.chain.proofs.is_live.Tie as tie
 
 returns : tie.Need-returns
 returns c = rw (c .is-splice .ensures, c .before .read-u8 .ensures, c .before .before .read-u16 .ensures)

@@ -2,8 +2,8 @@
 -- Assumes nothing.
 use lib.Seq.{set-out}
 use borrow.Author.Needs.{needs}
-use Rattle.list.proofs.chain.put_if.Statement.{statement}
-use Rattle.list.proofs.chain.put_if.Tie as tie
+use Rattle.chain.proofs.put_if.Statement.{statement}
+use Rattle.chain.proofs.put_if.Tie as tie
 
 put : tie.Need-returns
 put c = rw (c .before .if1 .taken)

@@ -14,7 +14,7 @@ use lib.Seq.{sets}
 use borrow.Author.Tests.{eq-eqb, ne-eqb, lt-ltb, le-ltb}
 use Rattle.rows.specs.Table.{Table, keyAt}
 use Rattle.rows.specs.Order.{rankAt}
-use Rattle.list.specs.Chain.{behind, isLive, oneIf, rises, withKey, liveFrom}
+use Rattle.chain.specs.Chain.{behind, isLive, oneIf, rises, withKey, liveFrom}
 
 module _ (t : Table) (row : ℕ) where
   -- ---- whether it rises
@@ -28,15 +28,15 @@ module _ (t : Table) (row : ℕ) where
   rises-end zero ends = eq-eqb row 2 ends
   rises-end (suc left) ends = rw (eq-eqb row 2 ends)
 
-  pub rises-stop : (left : ℕ) → 0 < left → row ≢ 2 → rankAt t (behind t row) ≤ rankAt t row → rises t left row ≡ false
+  pub rises-stop : (left : ℕ) {later : ℕ} → 0 < left → row ≢ 2 → later ≡ behind t row → rankAt t later ≤ rankAt t row → rises t left row ≡ false
   unfolding rises
-  rises-stop zero some goes falls = absurd (not-suc-le-zero some)
-  rises-stop (suc left) some goes falls = rw (ne-eqb row 2 goes, le-ltb (rankAt t row) (rankAt t (behind t row)) falls)
+  rises-stop zero some goes is falls = absurd (not-suc-le-zero some)
+  rises-stop (suc left) {later} some goes is falls = rw (ne-eqb row 2 goes, ← is, le-ltb (rankAt t row) (rankAt t later) falls)
 
-  pub rises-on : (left : ℕ) → 0 < left → row ≢ 2 → rankAt t row < rankAt t (behind t row) → rises t left row ≡ rises t (left - 1) (behind t row)
+  pub rises-on : (left : ℕ) {later : ℕ} → 0 < left → row ≢ 2 → later ≡ behind t row → rankAt t row < rankAt t later → rises t left row ≡ rises t (left - 1) later
   unfolding rises
-  rises-on zero some goes up = absurd (not-suc-le-zero some)
-  rises-on (suc left) some goes up = rw (ne-eqb row 2 goes, lt-ltb (rankAt t row) (rankAt t (behind t row)) up, sub-one)
+  rises-on zero some goes is up = absurd (not-suc-le-zero some)
+  rises-on (suc left) {later} some goes is up = rw (ne-eqb row 2 goes, ← is, lt-ltb (rankAt t row) (rankAt t later) up, sub-one)
 
   -- ---- its keys
 

@@ -1,0 +1,2 @@
+-- What the chain and its live keys are.
+pub mod Chain
