@@ -26,20 +26,20 @@ machine table state = record { table = table; state = state }
 abbrev pub partyOf : Machine → ℕ → Party
 partyOf m i = partyAt (m .state) i
 
--- ---- a call makes no access
+-- ---- a call
 
--- an ADD or a REMOVE uses the spare, which is an unpublished own, else it takes row T
+-- the row of an ADD or a REMOVE: the party's spare, which is an unpublished own, else the first row that is not taken
 abbrev pub ownRow : State → Party → ℕ
 ownRow st q = cond (q .unpublished) (q .own) (st .taken)
 
 abbrev pub takenThen : State → Party → ℕ
 takenThen st q = cond (q .unpublished) (st .taken) (oneMore 65535 (st .taken))
 
--- the own row becomes an item with the call's key, and the walk starts
+-- it is made an item with the call's key, and the walk starts
 abbrev pub startOf : State → Party → Call → ℕ → Begun
 startOf st q call key = record { party = starting call key (ownRow st q); write = Item (ownRow st q) key; taken = takenThen st q }
 
--- what a call comes to: the party after it, what is written, how many rows are then taken; CONTAINS takes none and starts at c = 1
+-- what a call comes to: the party after it, what is written, how many rows are then taken; a CONTAINS needs no row
 unfoldable pub begunOf : State → Party → Call → ℕ → Begun
 begunOf st q Add key = startOf st q Add key
 begunOf st q Remove key = startOf st q Remove key
@@ -52,7 +52,7 @@ started m i begun = machine (written (begun .write) (m .table)) (withTaken (with
 unfoldable pub bareCallOf : Machine → ℕ → Call → ℕ → Machine
 bareCallOf m i call key = started m i (begunOf (m .state) (partyOf m i) call key)
 
--- ---- a move makes one access, and what came of it is counted
+-- ---- a move
 
 -- what a move leaves, and what it says
 pub record Stepped : Type 0 where

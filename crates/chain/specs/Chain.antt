@@ -6,11 +6,11 @@ use lib.Dec.{eqb, ltb}
 use Rattle.rows.specs.Table.{Table, keyAt, nextAt, isItem, isSplice}
 use Rattle.rows.specs.Order.{rankAt}
 
--- the row behind a row: its next, or through a splice the splice's next
+-- the row behind a row, with the splice of a removed row passed over
 abbrev pub behind : Table → ℕ → ℕ
 behind t row = cond (isSplice t (nextAt t row)) (nextAt t (nextAt t row)) (nextAt t row)
 
--- a row's key is live if it is an item whose next is not a splice
+-- an item that nobody has removed
 abbrev pub isLive : Table → ℕ → Bool
 isLive t row = isItem t row && not (isSplice t (nextAt t row))
 
@@ -18,7 +18,7 @@ isLive t row = isItem t row && not (isSplice t (nextAt t row))
 abbrev pub oneIf : Bool → ℕ
 oneIf live = cond live 1 0
 
--- from a row on the chain rises strictly until row 2; fuel bounds the walk (that T is enough is FuelNeverDecides in Claims)
+-- each row is below the one behind it, from this row on to row 2; fuel bounds the walk, and `FuelNeverDecides` of `list` says that it never shows
 unfoldable pub rises : Table → (fuel row : ℕ) → Bool
 rises t zero row = eqb row 2
 rises t (suc fuel) row = eqb row 2 || (ltb (rankAt t row) (rankAt t (behind t row)) && rises t fuel (behind t row))

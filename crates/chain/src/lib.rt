@@ -10,7 +10,7 @@ ghost use lib.Seq.{sets};
 ghost use Rattle.rows.specs.Table.{tab};
 ghost use Rattle.chain.specs.Chain.{behind, isLive, oneIf, rises, liveFrom};
 
-// The row behind a row: its next, or through a splice the splice's next.
+// The row behind a row, with the splice of a removed row passed over.
 fn row_behind(kind: &[u8], key: &[u32], next: &[u16], back: &[u16], row: u16) -> u16
     ensures { λ r. ⌜ r ≡ behind (tab (now (kind .entry)) (now (key .entry)) (now (next .entry)) (now (back .entry))) row ⌝ }
 {

@@ -1,4 +1,4 @@
--- Good form as one test that computes, sentence by sentence (document 01, "Rows and parties").
+-- Good form as one test that computes: one definition for each thing that it asks, in the order of document 01, "Rows and parties".
 use mathlib.Core.List.{List}
 use mathlib.Core.Bool.{Bool, true, false, not, cond, _&&_, _||_}
 use Prim.Native.Nat.{ℕ, _+_}
@@ -19,27 +19,27 @@ use Rattle.form.specs.declared.Keeps.{Keeps}
 
 -- ---- the columns
 
--- N
+-- how long the columns are: N
 abbrev pub rowsIn : Table → ℕ
 rowsIn t = length (t .kind)
 
--- the columns agree
+-- all four columns, given by their lengths, are as long as the kinds
 abbrev pub columnsAgree : (kind key next back : ℕ) → Bool
 columnsAgree kind key next back = eqb key kind && eqb next kind && eqb back kind
 
--- 4 ≤ T ≤ N
+-- the end rows are taken, and no row is taken that is not there
 abbrev pub takenFits : (taken rows : ℕ) → Bool
 takenFits taken rows = leb 4 taken && leb taken rows
 
--- rows 0 to 3 have kind 1, rows 4 to T − 1 kind 2 or 3, rows from T on kind 0
+-- an end row is an end, another taken row is an item or a splice, a row that is not taken is unused
 abbrev pub kindFits : (taken row kind : ℕ) → Bool
 kindFits taken row kind = cond (ltb row 4) (eqb kind 1) (cond (ltb row taken) (eqb kind 2 || eqb kind 3) (eqb kind 0))
 
--- rows from T on have key 0
+-- a row that is not taken holds no key; a taken one may hold any
 abbrev pub keyFits : (taken row key : ℕ) → Bool
 keyFits taken row key = ltb row taken || eqb key 0
 
--- a next or a back is below T, and 0 in rows from T on
+-- a taken row leads to taken rows only, by its next and by its back; one that is not taken leads nowhere
 abbrev pub linkFits : (taken row to : ℕ) → Bool
 linkFits taken row to = cond (ltb row taken) (ltb to taken) (eqb to 0)
 
@@ -54,14 +54,14 @@ linksFit links taken = every (λ row. linkFits taken row (at links row)) (length
 
 -- ---- a party record
 
--- every row number in it is below T
+-- whatever row it names is taken
 abbrev pub rowsBelow : (taken : ℕ) → Party → Bool
 rowsBelow taken q = ltb (q .p) taken && ltb (q .n) taken && ltb (q .c) taken && ltb (q .s) taken && ltb (q .r) taken && ltb (q .own) taken
 
 abbrev pub keeping : (p n c s r : Bool) → Keeps
 keeping p n c s r = record { p = p; n = n; c = c; s = s; r = r }
 
--- the values kept, place by place (own has rules of its own)
+-- which of p, n, c, s and r a place has a use for (own has rules of its own)
 abbrev pub keptAt : Place → Keeps
 keptAt Idle = keeping false false false false false
 keptAt (Walk call key) = keeping true true true false false
@@ -73,7 +73,8 @@ keptAt (Clean call key) = keeping true true false false true
 keptAt (Back call key) = keeping true false false false false
 keptAt (Look call key) = keeping false false true false false
 
--- the party's call is a REMOVE
+-- ---- which call it is
+
 abbrev pub isRemove : Call → Bool
 isRemove Add = false
 isRemove Remove = true
@@ -100,17 +101,17 @@ removing (Clean call key) = isRemove call
 removing (Back call key) = isRemove call
 removing (Look call key) = isRemove call
 
--- a REMOVE is marked exactly if its own is published
+-- a REMOVE whose own row has gone into the list has marked its key
 abbrev pub marked : Party → Bool
 marked q = removing (q .place) && not (q .unpublished)
 
--- values that a place does not keep are 0; a marked REMOVE also keeps r
+-- what has no use is 0; a marked REMOVE has a use for r wherever it is
 abbrev pub othersZero : Keeps → Party → Bool
 othersZero keeps q =
     (keeps .p || eqb (q .p) 0) && (keeps .n || eqb (q .n) 0) && (keeps .c || eqb (q .c) 0) && (keeps .s || eqb (q .s) 0)
     && (keeps .r || marked q || eqb (q .r) 0)
 
--- each place is one that the party's call can reach
+-- no call comes to a place of another
 abbrev pub canReach : Place → Bool
 canReach Idle = true
 canReach (Walk call key) = isAdd call || isRemove call
@@ -122,12 +123,12 @@ canReach (Clean call key) = isRemove call
 canReach (Back call key) = isAdd call || isRemove call
 canReach (Look call key) = isContains call
 
--- own 0, which is never unpublished, or an unpublished own of at least 4
+-- no own row, which then cannot be unpublished, or a spare that is no end row
 abbrev pub noneOrSpare : (own : ℕ) (unpublished : Bool) → Bool
 noneOrSpare own unpublished = cond unpublished (leb 4 own) (eqb own 0)
 
--- own is at least 4 in every place of ADD and REMOVE, published in CLEAN and in a REMOVE's BACK, unpublished in MARK, in REREAD and in all
--- of ADD; an idle or looking party has none or a spare
+-- an ADD or a REMOVE has an own row that is no end row: an ADD keeps it to itself until it answers, a REMOVE until its mark is won, which is
+-- behind it in CLEAN and in BACK and may be either in WALK; who is idle or looks has at most a spare
 abbrev pub ownFits : Place → (own : ℕ) (unpublished : Bool) → Bool
 ownFits Idle own unpublished = noneOrSpare own unpublished
 ownFits (Walk call key) own unpublished = leb 4 own && (unpublished || not (isAdd call))
@@ -155,18 +156,18 @@ isIdle (Clean call key) = false
 isIdle (Back call key) = false
 isIdle (Look call key) = false
 
--- parties beyond P are idle without a spare
+-- a place of the party table that no party uses is blank
 abbrev pub partyFits : (taken count i : ℕ) → Party → Bool
 partyFits taken count i q = recordFits taken q && (ltb i count || isIdle (q .place) && eqb (q .own) 0)
 
 unfoldable pub partiesFit : State → Bool
 partiesFit st = every (λ i. partyFits (st .taken) (st .count) i (partyAt st i)) 16
 
--- 1 ≤ P ≤ 16
+-- there is a party, and each has a place in the table
 abbrev pub countFits : (count : ℕ) → Bool
 countFits count = leb 1 count && leb count 16
 
--- won + lost ≤ moves ≤ 16,777,216
+-- each swap was a move, and the moves are within their limit
 abbrev pub talliesFit : (moves won lost : ℕ) → Bool
 talliesFit moves won lost = leb (won + lost) moves && leb moves 16777216
 

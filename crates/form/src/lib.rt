@@ -5,10 +5,8 @@ use party::Place;
 use party::State;
 use rows::Row;
 ghost use mathlib.Core.Path.{_≡_};
-ghost use mathlib.Core.Bool.{not, cond, _&&_, _||_};
 ghost use Prim.Native.Nat.{_+_};
 ghost use lib.ListN.{length};
-ghost use lib.Dec.{eqb, ltb, leb};
 ghost use Rattle.rows.specs.Table.{tab};
 ghost use Rattle.bare.specs.Bare.{machine};
 ghost use Rattle.form.specs.Form.{
@@ -148,6 +146,7 @@ fn rows_below(taken: u16, party: Party) -> bool
         & (party.own < taken)
 }
 
+// A place's row in the table of the values kept.
 fn keeping(p: bool, n: bool, c: bool, s: bool, r: bool) -> Keeps
     ensures { λ made. ⌜ made ≡ keeping p n c s r ⌝ }
 {
@@ -171,6 +170,7 @@ fn kept_at(place: Place) -> Keeps
     }
 }
 
+// The call is an ADD.
 fn is_add(call: Call) -> bool
     ensures { λ r. ⌜ r ≡ isAdd call ⌝ }
 {
@@ -181,6 +181,7 @@ fn is_add(call: Call) -> bool
     }
 }
 
+// The call is a REMOVE.
 fn is_remove(call: Call) -> bool
     ensures { λ r. ⌜ r ≡ isRemove call ⌝ }
 {
@@ -191,6 +192,7 @@ fn is_remove(call: Call) -> bool
     }
 }
 
+// The call is a CONTAINS.
 pub fn is_contains(call: Call) -> bool
     ensures { λ r. ⌜ r ≡ isContains call ⌝ }
 {
@@ -218,7 +220,7 @@ fn removing(place: Place) -> bool
     }
 }
 
-// Whether all values but those kept are 0; a marked REMOVE also keeps r.
+// Whether what has no use is 0; a marked REMOVE has a use for r wherever it is.
 fn others_zero(keeps: Keeps, party: Party) -> bool
     ensures { λ r. ⌜ r ≡ othersZero keeps party ⌝ }
 {
@@ -283,6 +285,7 @@ fn record_fits(taken: u16, party: Party) -> bool
         & own_fits(place, party.own, party.unpublished)
 }
 
+// The party has no call.
 pub fn is_idle(place: Place) -> bool
     ensures { λ r. ⌜ r ≡ isIdle place ⌝ }
 {
@@ -299,7 +302,7 @@ pub fn is_idle(place: Place) -> bool
     }
 }
 
-// Whether the record of party i fits; those beyond the count are idle without a spare.
+// Whether the record of party i fits; a place that no party uses is blank.
 fn party_fits(taken: u16, count: u8, i: u32, party: Party) -> bool
     ensures { λ r. ⌜ r ≡ partyFits taken count i party ⌝ }
 {

@@ -64,7 +64,7 @@ use Rattle.list.specs.Engine.{
   moveOf,
 }
 use Rattle.list.proofs.Laws.{neither}
-use Rattle.list.specs.Claims.{SetUpIsGood, CallKeeps, MoveKeeps}
+use Rattle.list.specs.Claims.{SetUpIsGood, BlankIsBad, CallKeeps, MoveKeeps}
 use Rattle.form.proofs.Good.{two, Each, Rows, Fits, fits, Good, good, good-form}
 use Rattle.list.proofs.Keeps.{row-keeps, item-fits, write-keeps, party-keeps, FitMove, move-fits}
 
@@ -156,6 +156,9 @@ set-up-is-good t parties e =
     let first = past-test (badTable t) 1 (refusing (badParties parties) 2 passed) passes in
     let second = past-test (badParties parties) 2 passed (first .1) in
     good-form (machine (freshTable (rowsIn t)) (restingState parties 4)) (fresh-good (rowsIn t) parties (long-enough t (first .0) .0) (second .0)))
+
+pub blank-is-bad : BlankIsBad
+blank-is-bad t h = let ends : 4 ≤ 0 = good (machine t (restingState 0 0)) h .rows .ends in omega arith
 
 -- ---- a party's new record, with its table
 

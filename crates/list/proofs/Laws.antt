@@ -1,12 +1,11 @@
 -- The entry points case by case: what the tests found, and what is then answered and left.
 -- Assumes nothing.
-use mathlib.Core.Path.{_≡_, refl, ap, sym, _∙_}
+use mathlib.Core.Path.{_≡_, refl, ap, _∙_}
 use mathlib.Core.Bool.{Bool, true, false, not, true≢false, _||_, _&&_}
-use mathlib.Core.List.{List, _++_}
-use Prim.Native.Nat.{ℕ, zero, suc, _+_, _≤_}
-use native.Mathlib.Omega.{arith}
+use mathlib.Core.List.{List}
+use Prim.Native.Nat.{ℕ, zero, suc, _≤_}
 use native.Mathlib.Nat.{zero-add}
-use lib.ListN.{length, drop}
+use lib.ListN.{length}
 use lib.Seq.{sets, sets-eq}
 use lib.Dec.{eqb, ltb, leb}
 use borrow.Author.Tests.{ltb-false, eqb-true, not-false}
@@ -26,7 +25,6 @@ use Rattle.party.specs.declared.State.{State}
 use Rattle.moves.specs.declared.Said.{Said}
 use Rattle.bare.specs.Bare.{Machine, machine, stepped, bareCallOf, bareMoveOf}
 use Rattle.form.specs.Form.{rowsIn, columnsAgree, goodForm}
-use Rattle.chain.specs.Chain.{rises, liveFrom}
 use Rattle.list.specs.Engine.{
   badTable,
   formTests,

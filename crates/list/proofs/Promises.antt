@@ -1,11 +1,11 @@
 -- On good form the checked call and move are the bare ones; what a refusal leaves is what came; an answer tells its case.
 -- Assumes nothing.
-use mathlib.Core.Path.{_≡_, refl, ap, sym, _∙_}
+use mathlib.Core.Path.{_≡_, refl, ap, sym}
 use mathlib.Core.Bool.{true, false}
 use Prim.Native.Nat.{ℕ}
 use lib.ListN.{length}
 use Rattle.refusal.specs.Number.{numberOf}
-use Rattle.refusal.specs.Answer.{accepted, refused, Left, left, Tests, passed, leaving}
+use Rattle.refusal.specs.Answer.{accepted, refused, left, Tests, passed, leaving}
 use Rattle.refusal.proofs.Laws.{not-both}
 use Rattle.refusal.proofs.Told.{numbers-differ}
 use Rattle.bare.specs.Bare.{Machine, machine, bareCallOf, bareMoveOf}

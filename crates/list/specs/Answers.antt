@@ -1,9 +1,6 @@
 -- The answers of the code in the document's terms: each case of each enum with its number and values.
 use Prim.{Unit}
-use mathlib.Core.List.{List}
 use Prim.Native.Nat.{ℕ}
-use Rattle.refusal.specs.declared.Refusal.{Refusal}
-use Rattle.refusal.specs.declared.Verdict.{Verdict}
 use Rattle.refusal.specs.Number.{numberOf}
 use Rattle.refusal.specs.Answer.{Answer, accepted, refused, Left, left, verdictIs}
 use Rattle.rows.specs.Table.{Table}

@@ -20,6 +20,10 @@ use Rattle.list.specs.Engine.{badTable, restingState, setUpOf, callNamed
 abbrev pub SetUpIsGood : Type 0
 SetUpIsGood = (t : Table) (parties : ℕ) → setUpOf t parties .answer ≡ passed → goodForm (setUpOf t parties .memory) ≡ true
 
+-- the state that a refused set-up hands back has not good form, with any columns
+abbrev pub BlankIsBad : Type 0
+BlankIsBad = (t : Table) → goodForm (machine t (restingState 0 0)) ≡ true → ⊥
+
 -- an accepted call keeps good form, on any state
 abbrev pub CallKeeps : Type 0
 CallKeeps = (m : Machine) (party code key : ℕ) → callOf m party code key .answer ≡ passed → goodForm (callOf m party code key .memory) ≡ true

@@ -19,7 +19,7 @@ use Rattle.chain.specs.Chain.{rises, liveFrom}
 
 -- ---- tests that several entry points share
 
--- 1: columns unequal, or N outside 4 to 4,096
+-- the test for 1, of the columns' lengths
 abbrev pub badColumns : (kind key next back : ℕ) → Bool
 badColumns kind key next back = not (columnsAgree kind key next back && (leb 4 kind && leb kind 4096))
 
@@ -32,7 +32,7 @@ formTests m asked = refusing (badTable (m .table)) 1 (refusing (not (goodForm m)
 
 -- ---- set-up: 1, 2
 
--- 2: P 0 or over 16
+-- the test for 2
 abbrev pub badParties : ℕ → Bool
 badParties parties = eqb parties 0 || ltb 16 parties
 
@@ -43,28 +43,28 @@ setUpTests t parties = refusing (badTable t) 1 (refusing (badParties parties) 2 
 abbrev pub ends : List ℕ → (a b c d : ℕ) → List ℕ
 ends column a b c d = put (put (put (put column 0 a) 1 b) 2 c) 3 d
 
--- rows 0 to 3 have kind 1, key 0, back 0 and next 1, 2, 3, 3; all other rows are zeros
+-- the four end rows follow each other, the last one itself; nothing else is there
 abbrev pub freshTable : (rows : ℕ) → Table
 freshTable rows = tab (ends (zeros rows) 1 1 1 1) (zeros rows) (ends (zeros rows) 1 2 3 3) (zeros rows)
 
--- all parties idle without a spare, so many rows taken, tallies 0
+-- all parties at rest, so many rows taken, nothing counted yet
 abbrev pub restingState : (parties taken : ℕ) → State
 restingState parties taken = record { parties = replicate 16 blank; count = parties; taken = taken; moves = 0; won = 0; lost = 0 }
 
--- a refused set-up leaves the columns as found; the state that it hands back has no party and no row, and every later call is refused
+-- a refused set-up hands back a state without parties and rows, which every other entry point refuses (`BlankIsBad` in Claims)
 unfoldable pub setUpOf : Table → ℕ → Left Machine (Unit {0})
 setUpOf t parties =
     leaving (setUpTests t parties) (machine t (restingState 0 0)) (left (machine (freshTable (rowsIn t)) (restingState parties 4)) passed)
 
 -- ---- call: 1, 3, 4, 5, 6, 7
 
--- call codes: 0 ADD, 1 REMOVE, 2 CONTAINS
+-- the call that a code stands for; a larger code is refused before it is named
 abbrev pub callNamed : ℕ → Call
 callNamed zero = Add
 callNamed (suc zero) = Remove
 callNamed (suc (suc more)) = Contains
 
--- 7: ADD or REMOVE, no spare, T = N
+-- the test for 7: a row is needed, and there is neither a spare nor one to take
 abbrev pub noRow : (unpublished : Bool) (taken rows : ℕ) → Call → Bool
 noRow unpublished taken rows call = not (isContains call) && (not unpublished && eqb taken rows)
 

@@ -51,7 +51,7 @@ AddOverRemoved =
     ≡ going ∷ going ∷ going ∷ going ∷ yes ∷ going ∷ going ∷ yes ∷ [])
     × (tallies (after markedFive (calls 1 0 5 ∷ moves 1 ∷ moves 1 ∷ moves 1 ∷ moves 1 ∷ moves 0 ∷ moves 0 ∷ moves 0 ∷ [])) ≡ 13 ∷ 3 ∷ 1 ∷ [])
 
--- two REMOVEs of the same key at MARK: one wins, the other loses, rereads and says no
+-- of two REMOVEs that stand at MARK for the same key one takes it out, and the other finds out by its reread
 abbrev pub OneRemoves : Type 0
 OneRemoves =
     replies (after (fresh 12 2) (calls 0 0 5 ∷ moves 0 ∷ moves 0 ∷ moves 0 ∷ calls 0 1 5 ∷ calls 1 1 5 ∷ moves 0 ∷ moves 0 ∷ moves 1 ∷ moves 1 ∷ []))
@@ -90,7 +90,7 @@ LastMove =
 abbrev pub bare : ℕ → Table
 bare rows = tab (zeros rows) (zeros rows) (zeros rows) (zeros rows)
 
--- 16 parties pass, 17 not; 4 rows and 4,096 pass, 3 and 4,097 not; columns of different lengths do not; 1 comes before 2
+-- the ends of both ranges, columns of different lengths, and 1 before 2 where both apply
 abbrev pub SetUps : Type 0
 SetUps =
     (setUpOf (bare 4) 16 .answer ≡ passed)

@@ -1,6 +1,5 @@
 -- Calls and moves one after another, for examples: the state that they leave and what each is answered.
 use mathlib.Core.List.{List, [], _∷_}
-use mathlib.Core.Bool.{true}
 use Prim.Native.Nat.{ℕ}
 use lib.ListN.{replicate}
 use Rattle.refusal.specs.Answer.{Answer, accepted, refused, Left, Tests}

@@ -11,7 +11,7 @@ ghost use mathlib.Core.Path.{_≡_};
 ghost use lib.ListN.{length};
 ghost use Rattle.columns.specs.Column.{zeros};
 ghost use Rattle.rows.specs.Table.{tab};
-ghost use Rattle.list.specs.Engine.{ends, freshTable, restingState};
+ghost use Rattle.list.specs.Engine.{ends, restingState};
 
 // Rows 0 to 3 are end rows, the others unused.
 pub(crate) fn fresh_kinds(kind: &mut [u8])

@@ -9,32 +9,16 @@ use form::is_contains;
 use form::is_idle;
 use moves::Said;
 use party::Call;
-use party::Place;
 use party::State;
 use refusal::Refusal;
 use refusal::Verdict;
 ghost use mathlib.Core.Path.{_≡_};
-ghost use mathlib.Core.Bool.{not, _&&_, _||_};
-ghost use lib.ListN.{length};
-ghost use lib.Dec.{eqb, ltb, leb};
+ghost use mathlib.Core.Bool.{not};
+ghost use lib.Dec.{ltb};
 ghost use Rattle.refusal.specs.Answer.{left, verdictIs, refusing, passed};
 ghost use Rattle.rows.specs.Table.{tab};
 ghost use Rattle.bare.specs.Bare.{machine};
-ghost use Rattle.list.specs.Engine.{
-  badColumns,
-  formTests,
-  badParties,
-  setUpTests,
-  setUpOf,
-  callNamed,
-  noRow,
-  callAsks,
-  callOf,
-  moveAsks,
-  moveOf,
-  listTests,
-  listOf,
-};
+ghost use Rattle.list.specs.Engine.{badColumns, formTests, badParties, setUpOf, callNamed, noRow, callAsks, callOf, moveAsks, moveOf, listOf};
 ghost use Rattle.list.specs.Answers.{afterIs, stepIs, listedIs};
 
 mod fresh;

@@ -23,7 +23,7 @@ use Rattle.party.specs.Party.{idling, published, walking, skipping, adding, mar
 abbrev pub reads : Party → Write → Moved
 reads party write = record { party = party; said = Nothing; access = Read; write = write }
 
--- a read that gives the answer: the party is idle and keeps an unpublished own as its spare
+-- a read that gives the answer: the party rests, with the row that it has not put into the list
 abbrev pub answers : Party → Said → Moved
 answers party said = record { party = idling party; said = said; access = Read; write = Keep }
 
@@ -31,13 +31,13 @@ answers party said = record { party = idling party; said = said; access = Read; 
 abbrev pub wins : Party → Said → (row to : ℕ) → Moved
 wins party said row to = record { party = party; said = said; access = Won; write = Link row to }
 
--- a lost swap changes no row
+-- a lost swap: nothing is written
 abbrev pub loses : Party → Moved
 loses party = record { party = party; said = Nothing; access = Lost; write = Keep }
 
 -- ---- the places
 
--- to prepare: next of own := c; then the swap
+-- the own row is led to where the walk has landed, ready for its swap
 unfoldable pub prepareOf : Party → Call → ℕ → Moved
 prepareOf q call k = reads (adding q call k (q .p) (q .n)) (Link (q .own) (q .c))
 
@@ -59,7 +59,7 @@ module _ (t : Table) (q : Party) where
       (cond (equalsKey t (q .c) k) (answers q No)
       (prepareOf q Add k))
 
-  -- WALK, a REMOVE has landed; it is marked exactly if its own is published. Marked: where its splice is gone somebody has cleaned up, and
+  -- WALK, a REMOVE has landed; a published own is its mark. Marked: where its splice is gone somebody has cleaned up, and
   -- the answer is yes. Not yet marked: another key or a removed row means no, else own becomes a splice that leads on to s and back to p.
   unfoldable pub landedRemoveOf : ℕ → Moved
   landedRemoveOf k =
@@ -68,7 +68,7 @@ module _ (t : Table) (q : Party) where
       (cond (not (equalsKey t (q .c) k) || isSplice t s-of-c) (answers q No)
       (reads (marking q Remove k (q .p) (q .n) (q .c) s-of-c) (Splice (q .own) s-of-c (q .p))))
 
-  -- a CONTAINS has landed: yes exactly if c equals the key and is not removed
+  -- a CONTAINS has landed: the key is there if c has it and nobody has removed c
   unfoldable pub landedContainsOf : ℕ → Moved
   landedContainsOf k = cond (equalsKey t (q .c) k && not (isSplice t s-of-c)) (answers q Yes) (answers q No)
 
@@ -78,7 +78,7 @@ module _ (t : Table) (q : Party) where
   landedOf Remove k = landedRemoveOf k
   landedOf Contains k = landedContainsOf k
 
-  -- WALK: on while c is below the key
+  -- WALK: one row on, until a row is found that is not below the key
   unfoldable pub walkOf : Call → ℕ → Moved
   walkOf call k = cond (belowKey t (q .c) k) (onwardOf call k) (landedOf call k)
 
@@ -87,12 +87,12 @@ module _ (t : Table) (q : Party) where
   skipOf call k =
       cond (isSplice t s-of-c) (reads (skipping q call k (q .p) (q .n) (nextAt t s-of-c)) Keep) (prepareOf q call k)
 
-  -- ADDSWAP: next of p from n to own
+  -- ADDSWAP: the own row goes in behind p if n is still what stands there
   unfoldable pub addSwapOf : Call → ℕ → Moved
   addSwapOf call k =
       cond (eqb (nextAt t (q .p)) (q .n)) (wins (idling (published q)) Yes (q .p) (q .own)) (loses (backing q call k (q .p)))
 
-  -- MARK: next of c from s to own, which takes c out of the list; r is what stood behind it
+  -- MARK: the own splice goes in behind c if s is still what stands there, and c is removed; r is what stood behind it
   unfoldable pub markOf : Call → ℕ → Moved
   markOf call k =
       cond (eqb s-of-c (q .s)) (wins (cleaning (published q) call k (q .p) (q .n) (q .s)) Nothing (q .c) (q .own))
@@ -103,18 +103,18 @@ module _ (t : Table) (q : Party) where
   rereadOf call k =
       cond (isSplice t s-of-c) (answers q No) (reads (marking q call k (q .p) (q .n) (q .c) s-of-c) (Link (q .own) s-of-c))
 
-  -- CLEAN: next of p from n to r
+  -- CLEAN: p is led past the removed rows to r if n is still what stands behind p
   unfoldable pub cleanOf : Call → ℕ → Moved
   cleanOf call k =
       cond (eqb (nextAt t (q .p)) (q .n)) (wins (idling q) Yes (q .p) (q .r)) (loses (backing q call k (q .p)))
 
-  -- BACK: n := next of p; from a removed row back to the row that its splice names, else the walk starts again there
+  -- BACK: from a removed p to the row that its splice names; from one that is not removed the walk starts again
   unfoldable pub backOf : Call → ℕ → Moved
   backOf call k =
       cond (isSplice t (nextAt t (q .p))) (reads (backing q call k (backAt t (nextAt t (q .p)))) Keep)
       (reads (walking q call k (q .p) (nextAt t (q .p)) (nextAt t (q .p))) Keep)
 
-  -- LOOK: on while c is below the key, through splices
+  -- LOOK: one row on, through splices, until a row is found that is not below the key
   unfoldable pub lookOf : Call → ℕ → Moved
   lookOf call k =
       cond (belowKey t (q .c) k)

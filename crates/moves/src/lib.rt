@@ -199,6 +199,7 @@ fn landed_contains(
     answers(party, Said::No)
 }
 
+// WALK: one row on while c is below the key; else c has landed, and the call says what that means.
 fn walk(
     kind: &[u8],
     key: &[u32],
@@ -220,6 +221,7 @@ fn walk(
     }
 }
 
+// SKIP: past removed rows, without another look at the key.
 fn skip(
     kind: &[u8],
     key: &[u32],
@@ -242,6 +244,7 @@ fn skip(
     prepare(party, call, wanted)
 }
 
+// ADDSWAP: the own row goes in between p and n, unless something else stands behind p by now.
 fn add_swap(
     kind: &[u8],
     key: &[u32],
@@ -259,6 +262,7 @@ fn add_swap(
     loses(party.backing(call, wanted, party.p))
 }
 
+// MARK: the own splice goes in behind c, which removes c, unless something else stands there by now.
 fn mark(
     kind: &[u8],
     key: &[u32],
@@ -279,6 +283,7 @@ fn mark(
     loses(party.rereading(call, wanted, party.p, party.n, party.c))
 }
 
+// REREAD: a splice behind c means that another party was first; else the own splice is led to what stands there now.
 fn reread(
     kind: &[u8],
     key: &[u32],
@@ -301,6 +306,7 @@ fn reread(
     )
 }
 
+// CLEAN: p is led past the removed rows, unless something else stands behind p by now.
 fn clean(
     kind: &[u8],
     key: &[u32],
@@ -318,6 +324,7 @@ fn clean(
     loses(party.backing(call, wanted, party.p))
 }
 
+// BACK: from a removed p to the row that its splice names, and from there the walk starts again.
 fn go_back(
     kind: &[u8],
     key: &[u32],
@@ -337,6 +344,7 @@ fn go_back(
     reads(party.walking(call, wanted, party.p, n, n), Write::Keep)
 }
 
+// LOOK: one row on, through splices, while c is below the key.
 fn look(
     kind: &[u8],
     key: &[u32],

@@ -1,11 +1,9 @@
 -- Party records and the state: a maker for each place, and what a call or a move changes in the state (document 01, "Rows and parties").
-use mathlib.Core.List.{List}
-use mathlib.Core.Bool.{Bool, true, false, cond}
+use mathlib.Core.Bool.{true, false, cond}
 use Prim.Native.Nat.{ℕ, _+_}
 use lib.ListN.{set, getD}
 use lib.Dec.{ltb}
 use Rattle.party.specs.declared.Call.{Call}
-use Rattle.party.specs.declared.Place.{Place}
 use Rattle.party.specs.declared.Place.the-variants.{Idle, Walk, Skip, AddSwap, Mark, Reread, Clean, Back, Look}
 use Rattle.party.specs.declared.Party.{Party}
 use Rattle.party.specs.declared.State.{State}
@@ -29,7 +27,7 @@ idling q = record { place = Idle; p = 0; n = 0; c = 0; s = 0; r = 0; own = spare
 abbrev pub published : Party → Party
 published q = record { place = q .place; p = q .p; n = q .n; c = q .c; s = q .s; r = q .r; own = q .own; unpublished = false }
 
--- the start of an ADD or a REMOVE: p = 0, n = 1, c = 1, and an own row that nobody else knows
+-- an ADD or a REMOVE starts between rows 0 and 1, with an own row that nobody else knows of
 abbrev pub starting : Call → (wanted own : ℕ) → Party
 starting call wanted own = record { place = Walk call wanted; p = 0; n = 1; c = 1; s = 0; r = 0; own = own; unpublished = true }
 
@@ -62,7 +60,7 @@ module _ (q : Party) (call : Call) (wanted : ℕ) where
 
 -- ---- the state
 
--- party i; the table has sixteen places, and past them stands a blank one
+-- party i; past the sixteen places of the table, a blank one
 abbrev pub partyAt : State → ℕ → Party
 partyAt st i = getD (st .parties) i blank
 

@@ -1,6 +1,5 @@
 // Parties and the state: what a party record holds, a maker for each place, the party table, the tallies.
 ghost use mathlib.Core.Path.{_≡_};
-ghost use mathlib.Core.Bool.{cond};
 ghost use Prim.Native.Nat.{_+_};
 ghost use Rattle.party.specs.Party.{
   partyAt,
@@ -146,6 +145,7 @@ impl Party {
         }
     }
 
+    // At WALK; r goes along, for a marked REMOVE.
     pub fn walking(self, call: Call, wanted: u32, p: u16, n: u16, c: u16) -> Party
         ensures { λ r. ⌜ r ≡ walking self call wanted p n c ⌝ }
     {
@@ -161,6 +161,7 @@ impl Party {
         }
     }
 
+    // At SKIP.
     pub fn skipping(self, call: Call, wanted: u32, p: u16, n: u16, c: u16) -> Party
         ensures { λ r. ⌜ r ≡ skipping self call wanted p n c ⌝ }
     {
@@ -176,6 +177,7 @@ impl Party {
         }
     }
 
+    // At ADDSWAP.
     pub fn adding(self, call: Call, wanted: u32, p: u16, n: u16) -> Party
         ensures { λ r. ⌜ r ≡ adding self call wanted p n ⌝ }
     {
@@ -191,6 +193,7 @@ impl Party {
         }
     }
 
+    // At MARK.
     pub fn marking(self, call: Call, wanted: u32, p: u16, n: u16, c: u16, s: u16) -> Party
         ensures { λ r. ⌜ r ≡ marking self call wanted p n c s ⌝ }
     {
@@ -206,6 +209,7 @@ impl Party {
         }
     }
 
+    // At REREAD.
     pub fn rereading(self, call: Call, wanted: u32, p: u16, n: u16, c: u16) -> Party
         ensures { λ r. ⌜ r ≡ rereading self call wanted p n c ⌝ }
     {
@@ -221,6 +225,7 @@ impl Party {
         }
     }
 
+    // At CLEAN.
     pub fn cleaning(self, call: Call, wanted: u32, p: u16, n: u16, r: u16) -> Party
         ensures { λ made. ⌜ made ≡ cleaning self call wanted p n r ⌝ }
     {
@@ -236,6 +241,7 @@ impl Party {
         }
     }
 
+    // At BACK; r goes along, for a marked REMOVE.
     pub fn backing(self, call: Call, wanted: u32, p: u16) -> Party
         ensures { λ r. ⌜ r ≡ backing self call wanted p ⌝ }
     {
@@ -251,6 +257,7 @@ impl Party {
         }
     }
 
+    // At LOOK.
     pub fn looking(self, call: Call, wanted: u32, c: u16) -> Party
         ensures { λ r. ⌜ r ≡ looking self call wanted c ⌝ }
     {

@@ -17,10 +17,10 @@ rank kind key row = cond (eqb kind 3) 0 (cond (eqb kind 2) (3 + key) (endRank ro
 abbrev pub rankAt : Table → ℕ → ℕ
 rankAt t row = rank (kindAt t row) (keyAt t row) row
 
--- a row is below a key if it stands before every item with that key
+-- below a key: before every item that has it
 abbrev pub belowKey : Table → (row key : ℕ) → Bool
 belowKey t row key = ltb (rankAt t row) (3 + key)
 
--- only an item can equal a key
+-- no end row and no splice has the rank of a key
 abbrev pub equalsKey : Table → (row key : ℕ) → Bool
 equalsKey t row key = eqb (rankAt t row) (3 + key)

@@ -28,7 +28,7 @@ nextAt t row = at (t .next) row
 abbrev pub backAt : Table → ℕ → ℕ
 backAt t row = at (t .back) row
 
--- kinds: 0 unused, 1 end, 2 item, 3 splice
+-- the kinds by number: 0 is an unused row, 1 an end row
 abbrev pub isItem : Table → ℕ → Bool
 isItem t row = eqb (kindAt t row) 2
 

@@ -3,7 +3,7 @@ use Rattle.rows.specs.declared.Write.{Write}
 use Rattle.rows.specs.declared.Write.the-variants.{Keep, Link, Splice, Item}
 use Rattle.rows.specs.Table.{Table, link, withRow}
 
--- a splice has key 0; an item starts with next 0 and back 0
+-- a splice has no key; an item is made before anything is linked to it or from it
 abbrev pub written : Write → Table → Table
 written Keep t = t
 written (Link row to) t = link t row to

@@ -1,6 +1,5 @@
 -- `set_up` lays an empty list down where its tests pass.
 -- Assumes nothing.
-use mathlib.Core.Path.{_≡_}
 use Prim.Native.Nat.{_≤_}
 use native.Mathlib.Omega.{arith}
 use Rattle.refusal.proofs.Told.{tests-told}
