@@ -32,7 +32,7 @@ CallKeeps = (m : Machine) (party code key : ℕ) → callOf m party code key .an
 abbrev pub MoveKeeps : Type 0
 MoveKeeps = (m : Machine) (party : ℕ) (said : Said) → moveOf m party .answer ≡ accepted said → goodForm (moveOf m party .memory) ≡ true
 
--- ---- on good form the checked call and move are the bare ones
+-- ---- on good form, and with no more rows than a table may have, the checked call and move are the bare ones
 
 -- of the refusals of a call only 4, 5, 6 and 7 are left, and an accepted call is the bare one
 abbrev pub CallIsBare : Type 0
