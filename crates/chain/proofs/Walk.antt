@@ -56,6 +56,9 @@ module _ (t : Table) (row : ℕ) where
 
 -- ---- a key that counts, in a count and in the places
 
+pub none-left : (count : ℕ) {keys : List ℕ} → keys ≡ [] → count + length keys ≡ count
+none-left count none = rw none (add-zero count)
+
 at-most-one : (counts : Bool) → oneIf counts ≤ 1
 at-most-one true = omega arith
 at-most-one false = omega arith

@@ -6,7 +6,19 @@ use Rattle.bare.proofs.step.Statement.{statement}
 use Rattle.bare.proofs.step.Tie as tie
 
 returns : tie.Need-returns
-returns c = a-move _ _ _ (c .before .before .before .before .before .before .before .before .before .before .before .before .before .before .before .party-at .ensures) (c .before .before .before .before .before .before .before .before .before .before .before .before .before .before .place-move .ensures) (c .before .before .before .before .before .before .before .before .before .apply .ensures) (c .settle .ensures)
+returns c =
+    let c9 = c .before .before .before .before .before .before .before .before .before in
+    let c14 = c9 .before .before .before .before .before in
+    let c15 = c14 .before in
+    a-move _ _ _
+    (c15 .party-at .ensures)
+    (c14 .place-move .ensures)
+    (c9 .apply .ensures)
+    (c .settle .ensures)
 
 pub step-spec : {M : Type 1} → statement M
-step-spec = tie.close (tie.spec (λ c κs. search needs) (λ c κs. search needs) (λ c κs. search needs) (λ c κs. search needs) (λ c. search needs) (λ c. search needs) (λ c. search needs) (λ c. search needs) returns)
+step-spec =
+    tie.close
+    (tie.spec
+    (λ c κs. search needs) (λ c κs. search needs) (λ c κs. search needs) (λ c κs. search needs) (λ c. search needs)
+    (λ c. search needs) (λ c. search needs) (λ c. search needs) returns)

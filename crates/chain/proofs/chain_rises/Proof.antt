@@ -24,23 +24,42 @@ holds : tie.Need-loop-holds Inv-loop μ-loop
 holds c = (omega arith, refl)
 
 arrived : tie.Need-returns Inv-loop μ-loop
-arrived c = let m = c .before .before in sym (m .loop .inv .1 ∙ rises-end (table (m .before .before .before .before .before)) (m .loop .row) (m .loop .left) (c .if1 .taken))
+arrived c =
+    let m = c .before .before in
+    let t = table (m .before .before .before .before .before) in
+    sym (m .loop .inv .1 ∙ rises-end t (m .loop .row) (m .loop .left) (c .if1 .taken))
 
 falls : tie.Need-returns-2 Inv-loop μ-loop
 falls c =
-    let m = c .before .before .before .before .before .before in
-    sym (m .loop .inv .1 ∙ rises-stop (table (m .before .before .before .before .before)) (m .loop .row) (m .loop .left) (omega arith) (c .before .before .before .before .if1 .left) (c .before .before .before .row-behind .ensures) (rw (← c .before .before .rank .ensures, ← c .before .rank2 .ensures) (c .if2 .taken)))
+    let c3 = c .before .before .before in
+    let m = c3 .before .before .before in
+    let t = table (m .before .before .before .before .before) in
+    sym
+    (m .loop .inv .1
+    ∙ rises-stop t (m .loop .row) (m .loop .left) (omega arith) (c3 .before .if1 .left) (c3 .row-behind .ensures)
+    (rw (← c .before .before .rank .ensures, ← c .before .rank2 .ensures) (c .if2 .taken)))
 
 again : tie.Need-loop-again Inv-loop μ-loop
 again c =
-    let m = c .before .before .before .before .before .before in
-    (omega arith, m .loop .inv .1 ∙ rises-on (table (m .before .before .before .before .before)) (m .loop .row) (m .loop .left) (omega arith) (c .before .before .before .before .if1 .left) (c .before .before .before .row-behind .ensures) (rw (← c .before .before .rank .ensures, ← c .before .rank2 .ensures) (c .if2 .left)))
+    let c3 = c .before .before .before in
+    let m = c3 .before .before .before in
+    let t = table (m .before .before .before .before .before) in (
+      omega arith,
+      m .loop .inv .1
+          ∙ rises-on t (m .loop .row) (m .loop .left) (omega arith) (c3 .before .if1 .left) (c3 .row-behind .ensures)
+          (rw (← c .before .before .rank .ensures, ← c .before .rank2 .ensures) (c .if2 .left)),
+    )
 
 out : tie.Need-returns-3 Inv-loop μ-loop
 out c =
     let m = c .before in
+    let t = table (m .before .before .before .before .before) in
     let spent : m .loop .left ≡ 0 = omega arith in
-    sym (m .loop .inv .1 ∙ ap (λ (n : ℕ). rises (table (m .before .before .before .before .before)) n (m .loop .row)) spent ∙ rises-none (table (m .before .before .before .before .before)) (m .loop .row))
+    sym (m .loop .inv .1 ∙ ap (λ (n : ℕ). rises t n (m .loop .row)) spent ∙ rises-none t (m .loop .row))
 
 pub chain-rises-spec : {M : Type 1} → statement M
-chain-rises-spec = tie.close (tie.spec Inv-loop μ-loop holds arrived (λ c κs. search needs) (λ c κs. search needs) (λ c κs. search needs) falls (λ c. omega arith) (λ c. omega arith) again out)
+chain-rises-spec =
+    tie.close
+    (tie.spec
+    Inv-loop μ-loop holds arrived (λ c κs. search needs) (λ c κs. search needs) (λ c κs. search needs) falls (λ c. omega arith)
+    (λ c. omega arith) again out)

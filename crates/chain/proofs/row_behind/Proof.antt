@@ -5,7 +5,13 @@ use Rattle.chain.proofs.row_behind.Statement.{statement}
 use Rattle.chain.proofs.row_behind.Tie as tie
 
 through : tie.Need-returns
-through c = rw (← c .before .before .before .read-u16 .ensures, ← c .before .before .is-splice .ensures, c .before .if1 .taken) (c .read-u162 .ensures)
+through c =
+    rw (
+      ← c .before .before .before .read-u16 .ensures,
+      ← c .before .before .is-splice .ensures,
+      c .before .if1 .taken,
+    )
+    (c .read-u162 .ensures)
 
 plain : tie.Need-returns-2
 plain c = rw (← c .before .before .read-u16 .ensures, ← c .before .is-splice .ensures, c .if1 .left)

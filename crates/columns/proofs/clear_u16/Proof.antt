@@ -19,7 +19,9 @@ holds : tie.Need-loop-holds Inv-loop μ-loop
 holds c = (omega arith, refl, refl)
 
 again : tie.Need-loop-again Inv-loop μ-loop
-again c = let m = c .before in (omega arith, rw length-set (m .loop .inv .1), clear-one (m .before .args .column .now) (m .loop .row) (m .loop .inv .2) (omega arith))
+again c =
+    let m = c .before in
+    (omega arith, rw length-set (m .loop .inv .1), clear-one (m .before .args .column .now) (m .loop .row) (m .loop .inv .2) (omega arith))
 
 same-length : tie.Need-same-length Inv-loop μ-loop
 same-length c = search needs
@@ -28,4 +30,7 @@ returns : tie.Need-returns Inv-loop μ-loop
 returns c = let m = c .before in clear-all (m .before .args .column .now) (m .loop .row) (m .loop .inv .2) (omega arith)
 
 pub clear-u16-spec : {M : Type 1} → statement M
-clear-u16-spec = tie.close (tie.spec Inv-loop μ-loop holds (λ c. search needs) (λ c. search needs) (λ c. omega arith) (λ c. omega arith) again same-length returns)
+clear-u16-spec =
+    tie.close
+    (tie.spec
+    Inv-loop μ-loop holds (λ c. search needs) (λ c. search needs) (λ c. omega arith) (λ c. omega arith) again same-length returns)

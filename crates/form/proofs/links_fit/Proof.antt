@@ -28,14 +28,26 @@ holds c = (omega arith, refl)
 
 one-fails : tie.Need-returns Inv-loop μ-loop
 unfolding linksFit
-one-fails c = let m = c .before .before .before .before in let z = m .before .before in sym (every-fails (test z) (length (z .args .links .now)) (m .loop .row) (omega arith) (sym (c .before .link-fits .ensures) ∙ not-true _ (c .if1 .taken)))
+one-fails c =
+    let m = c .before .before .before .before in
+    let z = m .before .before in
+    sym (every-fails (test z) (length (z .args .links .now)) (m .loop .row) (omega arith) (sym (c .before .link-fits .ensures) ∙ not-true _ (c .if1 .taken)))
 
 again : tie.Need-loop-again Inv-loop μ-loop
-again c = let m = c .before .before .before .before in let z = m .before .before in (omega arith, every-more (test z) (m .loop .row) (m .loop .inv .1) (sym (c .before .link-fits .ensures) ∙ not-false _ (c .if1 .left)))
+again c =
+    let m = c .before .before .before .before in
+    let z = m .before .before in
+    (omega arith, every-more (test z) (m .loop .row) (m .loop .inv .1) (sym (c .before .link-fits .ensures) ∙ not-false _ (c .if1 .left)))
 
 all-hold : tie.Need-returns-2 Inv-loop μ-loop
 unfolding linksFit
-all-hold c = let whole : length (c .before .before .before .args .links .now) ≡ c .before .loop .row = omega arith in rw whole (sym (c .before .loop .inv .1))
+all-hold c =
+    let whole : length (c .before .before .before .args .links .now) ≡ c .before .loop .row = omega arith in
+    rw whole (sym (c .before .loop .inv .1))
 
 pub links-fit-spec : {M : Type 1} → statement M
-links-fit-spec = tie.close (tie.spec Inv-loop μ-loop holds (λ c. search needs) (λ c. search needs) (λ c κs. search needs) one-fails (λ c. omega arith) (λ c. omega arith) again all-hold)
+links-fit-spec =
+    tie.close
+    (tie.spec
+    Inv-loop μ-loop holds (λ c. search needs) (λ c. search needs) (λ c κs. search needs) one-fails (λ c. omega arith)
+    (λ c. omega arith) again all-hold)

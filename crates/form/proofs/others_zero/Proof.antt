@@ -5,7 +5,9 @@ use Rattle.form.proofs.others_zero.Statement.{statement}
 use Rattle.form.proofs.others_zero.Tie as tie
 
 returns : tie.Need-returns
-returns c = rw (c .before .before .before .before .before .before .before .before .before .before .before .removing .ensures)
+returns c =
+    let c11 = c .before .before .before .before .before .before .before .before .before .before .before in
+    rw (c11 .removing .ensures)
 
 pub others-zero-spec : {M : Type 1} → statement M
 others-zero-spec = tie.close (tie.spec (λ c κs. search needs) returns)

@@ -33,4 +33,9 @@ look : tie.Need-returns-9
 look c = rw (c .before .enum-told7 .given .1) (c .none-or-spare2 .ensures)
 
 pub own-fits-spec : {M : Type 1} → statement M
-own-fits-spec = tie.close (tie.spec (λ c. search needs) (λ c κs. search needs) (λ c. search needs) (λ c κs. search needs) (λ c. search needs) (λ c. search needs) (λ c. search needs) (λ c. search needs) (λ c. search needs) (λ c. search needs) (λ c κs. search needs) (λ c. search needs) (λ c κs. search needs) idle walk skip add-swap mark reread clean back look)
+own-fits-spec =
+    tie.close
+    (tie.spec
+    (λ c. search needs) (λ c κs. search needs) (λ c. search needs) (λ c κs. search needs) (λ c. search needs) (λ c. search needs)
+    (λ c. search needs) (λ c. search needs) (λ c. search needs) (λ c. search needs) (λ c κs. search needs) (λ c. search needs)
+    (λ c κs. search needs) idle walk skip add-swap mark reread clean back look)

@@ -7,6 +7,7 @@ use mathlib.Core.Bool.{Bool, true}
 use borrow.Author.Tests.{not-true, not-false}
 use Rattle.columns.specs.Every.{every}
 use Rattle.columns.proofs.Every.{every-more, every-fails}
+use Rattle.party.specs.declared.Party.{Party}
 use Rattle.party.specs.declared.State.{State}
 use Rattle.party.specs.Party.{partyAt}
 use Rattle.form.specs.Form.{partyFits, partiesFit}
@@ -16,6 +17,10 @@ use Rattle.form.proofs.parties_fit.Tie as tie
 
 abbrev test : State → ℕ → Bool
 test state i = partyFits (state .taken) (state .count) i (partyAt state i)
+
+-- what the code found of party i is the test
+told : (state : State) (i : ℕ) {q : Party} {found : Bool} → q ≡ partyAt state i → found ≡ partyFits (state .taken) (state .count) i q → test state i ≡ found
+told state i is finds = ap (partyFits (state .taken) (state .count) i) (sym is) ∙ sym finds
 
 abbrev Inv-loop : tie.InvT-loop
 Inv-loop state i₀ i = (i ≤ 16) × (every (test state) i ≡ true)
@@ -28,14 +33,27 @@ holds c = (omega arith, refl)
 
 one-fails : tie.Need-returns Inv-loop μ-loop
 unfolding partiesFit
-one-fails c = let m = c .before .before .before .before in let st = m .before .args .state in sym (every-fails (test st) 16 (m .loop .i) (omega arith) (ap (partyFits (st .taken) (st .count) (m .loop .i)) (sym (c .before .before .party-at .ensures)) ∙ sym (c .before .party-fits .ensures) ∙ not-true _ (c .if1 .taken)))
+one-fails c =
+    let m = c .before .before .before .before in
+    let st = m .before .args .state in
+    sym (every-fails (test st) 16 (m .loop .i) (omega arith) (told st (m .loop .i) (c .before .before .party-at .ensures) (c .before .party-fits .ensures) ∙ not-true _ (c .if1 .taken)))
 
 again : tie.Need-loop-again Inv-loop μ-loop
-again c = let m = c .before .before .before .before in let st = m .before .args .state in (omega arith, every-more (test st) (m .loop .i) (m .loop .inv .1) (ap (partyFits (st .taken) (st .count) (m .loop .i)) (sym (c .before .before .party-at .ensures)) ∙ sym (c .before .party-fits .ensures) ∙ not-false _ (c .if1 .left)))
+again c =
+    let m = c .before .before .before .before in
+    let st = m .before .args .state in (
+      omega arith,
+      every-more (test st) (m .loop .i) (m .loop .inv .1)
+          (told st (m .loop .i) (c .before .before .party-at .ensures) (c .before .party-fits .ensures) ∙ not-false _ (c .if1 .left)),
+    )
 
 all-hold : tie.Need-returns-2 Inv-loop μ-loop
 unfolding partiesFit
 all-hold c = let whole : c .before .loop .i ≡ 16 = omega arith in sym (rw whole at (c .before .loop .inv .1))
 
 pub parties-fit-spec : {M : Type 1} → statement M
-parties-fit-spec = tie.close (tie.spec Inv-loop μ-loop holds (λ c κs. search needs) (λ c κs. search needs) one-fails (λ c. omega arith) (λ c. omega arith) again all-hold)
+parties-fit-spec =
+    tie.close
+    (tie.spec
+    Inv-loop μ-loop holds (λ c κs. search needs) (λ c κs. search needs) one-fails (λ c. omega arith) (λ c. omega arith) again
+    all-hold)

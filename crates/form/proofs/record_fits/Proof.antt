@@ -7,7 +7,17 @@ use Rattle.form.proofs.record_fits.Tie as tie
 
 returns : tie.Need-returns
 unfolding recordFits
-returns c = rw (c .before .before .before .before .rows-below .ensures, c .before .before .others-zero .ensures, c .before .before .before .kept-at .ensures, c .before .can-reach .ensures, c .own-fits .ensures)
+returns c =
+    rw (
+      c .before .before .before .before .rows-below .ensures,
+      c .before .before .others-zero .ensures,
+      c .before .before .before .kept-at .ensures,
+      c .before .can-reach .ensures,
+      c .own-fits .ensures,
+    )
 
 pub record-fits-spec : {M : Type 1} → statement M
-record-fits-spec = tie.close (tie.spec (λ c κs. search needs) (λ c κs. search needs) (λ c κs. search needs) (λ c κs. search needs) (λ c κs. search needs) returns)
+record-fits-spec =
+    tie.close
+    (tie.spec
+    (λ c κs. search needs) (λ c κs. search needs) (λ c κs. search needs) (λ c κs. search needs) (λ c κs. search needs) returns)

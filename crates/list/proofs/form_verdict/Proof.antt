@@ -8,10 +8,22 @@ columns : tie.Need-returns
 columns c = rw (← c .before .bad-columns .ensures, c .if1 .taken)
 
 form : tie.Need-returns-2
-form c = rw (← c .before .before .before .bad-columns .ensures, c .before .before .if1 .left, ← c .before .good-form .ensures, c .if2 .taken)
+form c =
+    rw (
+      ← c .before .before .before .bad-columns .ensures,
+      c .before .before .if1 .left,
+      ← c .before .good-form .ensures,
+      c .if2 .taken,
+    )
 
 asked : tie.Need-returns-3
-asked c = rw (← c .before .before .before .bad-columns .ensures, c .before .before .if1 .left, ← c .before .good-form .ensures, c .if2 .left)
+asked c =
+    rw (
+      ← c .before .before .before .bad-columns .ensures,
+      c .before .before .if1 .left,
+      ← c .before .good-form .ensures,
+      c .if2 .left,
+    )
 
 pub form-verdict-spec : {M : Type 1} → statement M
 form-verdict-spec = tie.close (tie.spec (λ c κs. search needs) columns (λ c κs. search needs) form asked)

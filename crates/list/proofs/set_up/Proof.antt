@@ -11,13 +11,37 @@ use Rattle.list.proofs.set_up.Statement.{statement}
 use Rattle.list.proofs.set_up.Tie as tie
 
 small : tie.Need-cast-resting-state
-small c = let a = c .before .before .before .before .before .before .before .before .before .before .before .before .before .before .before .before .before .before .before .before .args in let few : a .parties ≤ 16 = few-parties (tab (a .kind .now) (a .key .now) (a .next .now) (a .back .now)) (a .parties) (tests-told {tests = setUpTests (tab (a .kind .now) (a .key .now) (a .next .now) (a .back .now)) (a .parties)} (c .before .before .before .before .before .before .before .before .before .before .before .before .before .before .before .set-up-verdict .ensures) (c .before .before .before .before .before .before .before .before .before .before .before .before .before .enum-told .given .1)) in omega (arith, few)
+small c =
+    let c13 = c .before .before .before .before .before .before .before .before .before .before .before .before .before in
+    let c15 = c13 .before .before in
+    let c20 = c15 .before .before .before .before .before in
+    let a = c20 .args in
+    let t = tab (a .kind .now) (a .key .now) (a .next .now) (a .back .now) in
+    let passes = tests-told {tests = setUpTests t (a .parties)} (c15 .set-up-verdict .ensures) (c13 .enum-told .given .1) in
+    let few : a .parties ≤ 16 = few-parties t (a .parties) passes in
+    omega (arith, few)
 
 accepted : tie.Need-returns
-accepted c = set-up-accepts _ _ (c .before .before .before .before .before .before .before .before .before .before .before .before .before .before .before .before .set-up-verdict .ensures) (c .before .before .before .before .before .before .before .before .before .before .before .before .before .before .enum-told .given .1) (c .before .before .before .before .before .before .before .before .before .fresh-table .ensures) (c .resting-state .ensures)
+accepted c =
+    let c9 = c .before .before .before .before .before .before .before .before .before in
+    let c14 = c9 .before .before .before .before .before in
+    let c16 = c14 .before .before in
+    set-up-accepts _ _
+    (c16 .set-up-verdict .ensures)
+    (c14 .enum-told .given .1)
+    (c9 .fresh-table .ensures)
+    (c .resting-state .ensures)
 
 refused : tie.Need-returns-2
-refused c = set-up-refuses _ _ (c .before .before .before .set-up-verdict .ensures) (c .before .enum-told2 .given .1) (c .resting-state2 .ensures)
+refused c =
+    set-up-refuses _ _
+    (c .before .before .before .set-up-verdict .ensures)
+    (c .before .enum-told2 .given .1)
+    (c .resting-state2 .ensures)
 
 pub set-up-spec : {M : Type 1} → statement M
-set-up-spec = tie.close (tie.spec (λ c κs. search needs) (λ c. search needs) (λ c κs. search needs) small (λ c κs. search needs) (λ c. search needs) (λ c κs. search needs) (λ c. search needs) (λ c. search needs) (λ c. search needs) (λ c. search needs) accepted refused)
+set-up-spec =
+    tie.close
+    (tie.spec
+    (λ c κs. search needs) (λ c. search needs) (λ c κs. search needs) small (λ c κs. search needs) (λ c. search needs)
+    (λ c κs. search needs) (λ c. search needs) (λ c. search needs) (λ c. search needs) (λ c. search needs) accepted refused)

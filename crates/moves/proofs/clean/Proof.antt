@@ -8,11 +8,24 @@ use Rattle.moves.proofs.clean.Tie as tie
 
 won : tie.Need-returns
 unfolding cleanOf
-won c = rw (holds (c .before .before .before .before .read-u16 .ensures) (c .before .before .if1 .taken), c .wins .ensures, c .before .idling .ensures)
+won c =
+    rw (
+      holds (c .before .before .before .before .read-u16 .ensures) (c .before .before .if1 .taken),
+      c .wins .ensures,
+      c .before .idling .ensures,
+    )
 
 lost : tie.Need-returns-2
 unfolding cleanOf
-lost c = rw (differs (c .before .before .before .before .read-u16 .ensures) (c .before .before .if1 .left), c .loses .ensures, c .before .backing .ensures)
+lost c =
+    rw (
+      differs (c .before .before .before .before .read-u16 .ensures) (c .before .before .if1 .left),
+      c .loses .ensures,
+      c .before .backing .ensures,
+    )
 
 pub clean-spec : {M : Type 1} → statement M
-clean-spec = tie.close (tie.spec (λ c κs. search needs) (λ c κs. search needs) (λ c κs. search needs) won (λ c κs. search needs) (λ c κs. search needs) lost)
+clean-spec =
+    tie.close
+    (tie.spec
+    (λ c κs. search needs) (λ c κs. search needs) (λ c κs. search needs) won (λ c κs. search needs) (λ c κs. search needs) lost)

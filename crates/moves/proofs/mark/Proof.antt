@@ -8,11 +8,26 @@ use Rattle.moves.proofs.mark.Tie as tie
 
 won : tie.Need-returns
 unfolding markOf
-won c = rw (holds (c .before .before .before .before .before .read-u16 .ensures) (c .before .before .before .if1 .taken), c .wins .ensures, c .before .cleaning .ensures, c .before .before .published .ensures)
+won c =
+    rw (
+      holds (c .before .before .before .before .before .read-u16 .ensures) (c .before .before .before .if1 .taken),
+      c .wins .ensures,
+      c .before .cleaning .ensures,
+      c .before .before .published .ensures,
+    )
 
 lost : tie.Need-returns-2
 unfolding markOf
-lost c = rw (differs (c .before .before .before .before .read-u16 .ensures) (c .before .before .if1 .left), c .loses .ensures, c .before .rereading .ensures)
+lost c =
+    rw (
+      differs (c .before .before .before .before .read-u16 .ensures) (c .before .before .if1 .left),
+      c .loses .ensures,
+      c .before .rereading .ensures,
+    )
 
 pub mark-spec : {M : Type 1} → statement M
-mark-spec = tie.close (tie.spec (λ c κs. search needs) (λ c κs. search needs) (λ c κs. search needs) (λ c κs. search needs) won (λ c κs. search needs) (λ c κs. search needs) lost)
+mark-spec =
+    tie.close
+    (tie.spec
+    (λ c κs. search needs) (λ c κs. search needs) (λ c κs. search needs) (λ c κs. search needs) won (λ c κs. search needs)
+    (λ c κs. search needs) lost)

@@ -5,7 +5,19 @@ use Rattle.list.proofs.fresh.fresh_table.Statement.{statement}
 use Rattle.list.proofs.fresh.fresh_table.Tie as tie
 
 returns : tie.Need-returns
-returns c = rw (c .before .before .clear-u16 .ensures, c .before .before .before .before .before .before .fresh-nexts .ensures, c .before .before .before .before .before .before .before .before .before .before .clear-u32 .ensures, c .before .before .before .before .before .before .before .before .before .before .before .before .before .before .fresh-kinds .ensures)
+returns c =
+    let c10 = c .before .before .before .before .before .before .before .before .before .before in
+    let c14 = c10 .before .before .before .before in
+    rw (
+      c .before .before .clear-u16 .ensures,
+      c .before .before .before .before .before .before .fresh-nexts .ensures,
+      c10 .clear-u32 .ensures,
+      c14 .fresh-kinds .ensures,
+    )
 
 pub fresh-table-spec : {M : Type 1} → statement M
-fresh-table-spec = tie.close (tie.spec (λ c κs. search needs) (λ c κs. search needs) (λ c κs. search needs) (λ c κs. search needs) (λ c. search needs) (λ c. search needs) (λ c. search needs) (λ c. search needs) returns)
+fresh-table-spec =
+    tie.close
+    (tie.spec
+    (λ c κs. search needs) (λ c κs. search needs) (λ c κs. search needs) (λ c κs. search needs) (λ c. search needs)
+    (λ c. search needs) (λ c. search needs) (λ c. search needs) returns)

@@ -10,7 +10,9 @@ use Rattle.party.proofs.State.party_at.Statement.{statement}
 use Rattle.party.proofs.State.party_at.Tie as tie
 
 past : tie.Need-returns-2
-past c = let long : length (c .before .before .args .t1 .parties) ≡ 16 = search (needs, long-mapped) in c .blank .ensures ∙ sym (List·getD-eq-default (c .before .before .args .t1 .parties) blank (omega arith))
+past c =
+    let long : length (c .before .before .args .t1 .parties) ≡ 16 = search (needs, long-mapped) in
+    c .blank .ensures ∙ sym (List·getD-eq-default (c .before .before .args .t1 .parties) blank (omega arith))
 
 pub party-at-spec : {M : Type 1} → statement M
 party-at-spec = tie.close (tie.spec (λ c. search needs) (λ c. search needs) (λ c. search needs) (λ c κs. search needs) past)

@@ -14,4 +14,8 @@ lost : tie.Need-returns-4
 lost c = rw (c .before .before .enum-told4 .given .1, c .before .one-more4 .ensures, c .one-more5 .ensures)
 
 pub tallied-spec : {M : Type 1} → statement M
-tallied-spec = tie.close (tie.spec (λ c. search needs) (λ c. search needs) (λ c κs. search needs) (λ c. search needs) (λ c κs. search needs) (λ c κs. search needs) (λ c. search needs) (λ c κs. search needs) (λ c κs. search needs) (λ c. search needs) read won lost)
+tallied-spec =
+    tie.close
+    (tie.spec
+    (λ c. search needs) (λ c. search needs) (λ c κs. search needs) (λ c. search needs) (λ c κs. search needs) (λ c κs. search needs)
+    (λ c. search needs) (λ c κs. search needs) (λ c κs. search needs) (λ c. search needs) read won lost)

@@ -10,7 +10,10 @@ use Rattle.party.proofs.State.with_party.Statement.{statement}
 use Rattle.party.proofs.State.with_party.Tie as tie
 
 past : tie.Need-returns-2
-past c = let a = c .before .args in let long : length (c .before .args .self .parties) ≡ 16 = search (needs, long-mapped) in rw (set-out (a .self .parties) (a .number) (a .party) (omega arith))
+past c =
+    let a = c .before .args in
+    let long : length (c .before .args .self .parties) ≡ 16 = search (needs, long-mapped) in
+    rw (set-out (a .self .parties) (a .number) (a .party) (omega arith))
 
 pub with-party-spec : {M : Type 1} → statement M
 with-party-spec = tie.close (tie.spec (λ c. search needs) (λ c. search needs) (λ c. search needs) past)
