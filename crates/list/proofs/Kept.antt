@@ -45,24 +45,8 @@ use Rattle.form.specs.Form.{
   columnsAgree,
   goodForm,
 }
-use Rattle.list.specs.Engine.{
-  badTable,
-  formTests,
-  badParties,
-  setUpTests,
-  freshTable,
-  restingState,
-  setUpOf,
-  callNamed,
-  noRow,
-  callAsks,
-  callTests,
-  callOf,
-  moveAsks,
-  moveTests,
-  accepting,
-  moveOf,
-}
+use Rattle.fresh.specs.Fresh.{freshTable, restingState}
+use Rattle.list.specs.Engine.{badTable, formTests, badParties, setUpTests, setUpOf, callNamed, noRow, callAsks, callTests, callOf, moveAsks, moveTests, accepting, moveOf}
 use Rattle.list.proofs.Laws.{neither}
 use Rattle.list.specs.Claims.{SetUpIsGood, BlankIsBad, CallKeeps, MoveKeeps}
 use Rattle.form.proofs.Good.{two, Each, Rows, Fits, fits, Good, good, good-form}

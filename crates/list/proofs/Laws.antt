@@ -25,29 +25,8 @@ use Rattle.party.specs.declared.State.{State}
 use Rattle.moves.specs.declared.Said.{Said}
 use Rattle.bare.specs.Bare.{Machine, machine, stepped, bareCallOf, bareMoveOf}
 use Rattle.form.specs.Form.{rowsIn, columnsAgree, goodForm}
-use Rattle.list.specs.Engine.{
-  badTable,
-  formTests,
-  badParties,
-  setUpTests,
-  ends,
-  freshTable,
-  restingState,
-  setUpOf,
-  callNamed,
-  callAsks,
-  callTests,
-  callOf,
-  moveAsks,
-  moveTests,
-  accepting,
-  moveOf,
-  chainRises,
-  liveKeys,
-  listTests,
-  placesWith,
-  listOf,
-}
+use Rattle.fresh.specs.Fresh.{ends, freshTable, restingState}
+use Rattle.list.specs.Engine.{badTable, formTests, badParties, setUpTests, setUpOf, callNamed, callAsks, callTests, callOf, moveAsks, moveTests, accepting, moveOf, chainRises, liveKeys, listTests, placesWith, listOf}
 
 -- every code past 1 names CONTAINS
 pub past-remove : (code : ℕ) → (code ≡ 0 → ⊥) → (code ≡ 1 → ⊥) → Contains ≡ callNamed code

@@ -12,26 +12,8 @@ use Rattle.bare.specs.Bare.{Machine, machine, bareCallOf, bareMoveOf}
 use Rattle.form.specs.Form.{rowsIn, goodForm}
 use Rattle.list.specs.declared.Reply.the-variants.{Heard, Refused}
 use Rattle.list.specs.declared.Listed.the-variants.{Keys, Refused as NotListed}
-use Rattle.list.specs.Engine.{
-  badTable,
-  formTests,
-  setUpTests,
-  freshTable,
-  restingState,
-  setUpOf,
-  callNamed,
-  callAsks,
-  callTests,
-  callOf,
-  moveAsks,
-  moveTests,
-  accepting,
-  moveOf,
-  liveKeys,
-  listTests,
-  placesWith,
-  listOf,
-}
+use Rattle.fresh.specs.Fresh.{freshTable, restingState}
+use Rattle.list.specs.Engine.{badTable, formTests, setUpTests, setUpOf, callNamed, callAsks, callTests, callOf, moveAsks, moveTests, accepting, moveOf, liveKeys, listTests, placesWith, listOf}
 use Rattle.list.specs.Claims.{CallIsBare, MoveIsBare, RefusedSetUpLeaves, RefusedCallLeaves, RefusedMoveLeaves, RefusedListingLeaves, RepliesDiffer, ListedDiffer}
 
 -- ---- checked and bare

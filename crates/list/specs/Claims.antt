@@ -12,7 +12,8 @@ use Rattle.list.specs.declared.Reply.{Reply}
 use Rattle.list.specs.declared.Listed.{Listed}
 use Rattle.list.specs.Answers.{replyIs, listedIs}
 use Rattle.chain.specs.Chain.{rises, liveFrom}
-use Rattle.list.specs.Engine.{badTable, restingState, setUpOf, callNamed, callAsks, callOf, moveAsks, accepting, moveOf, listOf}
+use Rattle.fresh.specs.Fresh.{restingState}
+use Rattle.list.specs.Engine.{badTable, setUpOf, callNamed, callAsks, callOf, moveAsks, accepting, moveOf, listOf}
 
 -- ---- good form is kept
 

@@ -3,17 +3,17 @@ use Prim.{Unit}
 use mathlib.Core.List.{List, _++_}
 use mathlib.Core.Bool.{Bool, not, _&&_, _||_}
 use Prim.Native.Nat.{ℕ, zero, suc}
-use lib.ListN.{length, drop, replicate}
+use lib.ListN.{length, drop}
 use lib.Dec.{eqb, ltb, leb}
 use Rattle.refusal.specs.Answer.{accepted, Left, left, Tests, passed, refusing, leaving}
-use Rattle.columns.specs.Column.{put, zeros}
-use Rattle.rows.specs.Table.{Table, tab}
+use Rattle.rows.specs.Table.{Table}
 use Rattle.party.specs.declared.Call.{Call}
 use Rattle.party.specs.declared.Call.the-variants.{Add, Remove, Contains}
 use Rattle.party.specs.declared.State.{State}
-use Rattle.party.specs.Party.{blank, partyAt}
+use Rattle.party.specs.Party.{partyAt}
 use Rattle.moves.specs.declared.Said.{Said}
 use Rattle.bare.specs.Bare.{Machine, machine, Stepped, bareCallOf, bareMoveOf}
+use Rattle.fresh.specs.Fresh.{freshTable, restingState}
 use Rattle.form.specs.Form.{rowsIn, columnsAgree, isIdle, isContains, goodForm}
 use Rattle.chain.specs.Chain.{rises, liveFrom}
 
@@ -38,18 +38,6 @@ badParties parties = eqb parties 0 || ltb 16 parties
 
 abbrev pub setUpTests : Table → ℕ → Tests
 setUpTests t parties = refusing (badTable t) 1 (refusing (badParties parties) 2 passed)
-
--- four entries for rows 0 to 3
-abbrev pub ends : List ℕ → (a b c d : ℕ) → List ℕ
-ends column a b c d = put (put (put (put column 0 a) 1 b) 2 c) 3 d
-
--- the four end rows follow each other, the last one itself; nothing else is there
-abbrev pub freshTable : (rows : ℕ) → Table
-freshTable rows = tab (ends (zeros rows) 1 1 1 1) (zeros rows) (ends (zeros rows) 1 2 3 3) (zeros rows)
-
--- all parties at rest, so many rows taken, nothing counted yet
-abbrev pub restingState : (parties taken : ℕ) → State
-restingState parties taken = record { parties = replicate 16 blank; count = parties; taken = taken; moves = 0; won = 0; lost = 0 }
 
 -- a refused set-up hands back a state without parties and rows, which every other entry point refuses (`BlankIsBad` in Claims)
 unfoldable pub setUpOf : Table → ℕ → Left Machine (Unit {0})

@@ -9,7 +9,8 @@ use Rattle.rows.specs.Table.{Table, tab}
 use Rattle.party.specs.Party.{counted}
 use Rattle.bare.specs.Bare.{Machine, machine}
 use Rattle.form.specs.Form.{goodForm}
-use Rattle.list.specs.Engine.{restingState, setUpOf, liveKeys, listOf}
+use Rattle.fresh.specs.Fresh.{restingState}
+use Rattle.list.specs.Engine.{setUpOf, liveKeys, listOf}
 use Rattle.list.specs.Run.{Asked, calls, moves, after, replies, going, yes, no, fresh}
 
 -- moves, won and lost
@@ -19,6 +20,14 @@ tallies m = m .state .moves ∷ m .state .won ∷ m .state .lost ∷ []
 -- key 5 is in the list, and party 0 has marked it and not yet cleaned: an ADD in 3 moves, a REMOVE up to its MARK in 3
 abbrev pub markedFive : Machine
 markedFive = after (fresh 12 2) (calls 0 0 5 ∷ moves 0 ∷ moves 0 ∷ moves 0 ∷ calls 0 1 5 ∷ moves 0 ∷ moves 0 ∷ moves 0 ∷ [])
+
+-- a fresh list has no keys and four rows taken; a CONTAINS there is answered no by its second move, and takes no row
+abbrev pub Fresh : Type 0
+Fresh =
+    (liveKeys (fresh 8 1) ≡ [])
+    × (fresh 8 1 .state .taken ≡ 4)
+    × (replies (fresh 8 1) (calls 0 2 5 ∷ moves 0 ∷ moves 0 ∷ []) ≡ going ∷ going ∷ no ∷ [])
+    × (after (fresh 8 1) (calls 0 2 5 ∷ moves 0 ∷ moves 0 ∷ []) .state .taken ≡ 4)
 
 -- an ADD alone on an empty list takes three moves: not one, and not none
 abbrev pub AddAlone : Type 0
@@ -32,6 +41,14 @@ abbrev pub SpareUsed : Type 0
 SpareUsed =
     (replies (fresh 8 1) (calls 0 1 5 ∷ moves 0 ∷ moves 0 ∷ []) ≡ going ∷ going ∷ no ∷ [])
     × (after (fresh 8 1) (calls 0 1 5 ∷ moves 0 ∷ moves 0 ∷ calls 0 0 7 ∷ []) .state .taken ≡ 5)
+
+-- a REMOVE of the only key takes four moves; the key is gone with the third, its MARK
+abbrev pub RemoveOnly : Type 0
+RemoveOnly =
+    let m = after (fresh 8 1) (calls 0 0 5 ∷ moves 0 ∷ moves 0 ∷ moves 0 ∷ []) in
+    (replies m (calls 0 1 5 ∷ moves 0 ∷ moves 0 ∷ moves 0 ∷ moves 0 ∷ []) ≡ going ∷ going ∷ going ∷ going ∷ yes ∷ [])
+    × (liveKeys (after m (calls 0 1 5 ∷ moves 0 ∷ moves 0 ∷ [])) ≡ 5 ∷ [])
+    × (liveKeys (after m (calls 0 1 5 ∷ moves 0 ∷ moves 0 ∷ moves 0 ∷ [])) ≡ [])
 
 -- keys are compared as unsigned numbers: 0 comes before 4,294,967,295, in whatever order they were entered
 abbrev pub KeysUnsigned : Type 0
@@ -118,4 +135,4 @@ Listings =
 
 abbrev pub Examples : Type 0
 Examples =
-    AddAlone × SpareUsed × KeysUnsigned × RemovedIsAbsent × AddOverRemoved × OneRemoves × RetryKeepsRow × Refusals × LastMove × SetUps × Listings
+    Fresh × AddAlone × SpareUsed × RemoveOnly × KeysUnsigned × RemovedIsAbsent × AddOverRemoved × OneRemoves × RetryKeepsRow × Refusals × LastMove × SetUps × Listings

@@ -1,12 +1,12 @@
 // The entry points of the list: set-up, call, move and listing, each with its refusals in their order.
-use crate::fresh::fresh_table;
-use crate::fresh::resting_state;
 use chain::chain_rises;
 use chain::live_count;
 use chain::write_live;
 use form::good_form;
 use form::is_contains;
 use form::is_idle;
+use fresh::fresh_table;
+use fresh::resting_state;
 use moves::Said;
 use party::Call;
 use party::State;
@@ -20,8 +20,6 @@ ghost use Rattle.rows.specs.Table.{tab};
 ghost use Rattle.bare.specs.Bare.{machine};
 ghost use Rattle.list.specs.Engine.{badColumns, formTests, badParties, setUpOf, callNamed, noRow, callAsks, callOf, moveAsks, moveOf, listOf};
 ghost use Rattle.list.specs.Answers.{afterIs, stepIs, listedIs};
-
-mod fresh;
 
 // What a set-up or a call hands back: the state, and whether it was accepted.
 pub struct After {

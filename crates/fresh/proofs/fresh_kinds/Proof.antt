@@ -1,8 +1,8 @@
--- `fresh_nexts` writes next 1, 2, 3, 3 in rows 0 to 3.
+-- `fresh_kinds` writes kind 1 in rows 0 to 3.
 -- Assumes nothing.
 use borrow.Author.Needs.{needs}
-use Rattle.list.proofs.fresh.fresh_nexts.Statement.{statement}
-use Rattle.list.proofs.fresh.fresh_nexts.Tie as tie
+use Rattle.fresh.proofs.fresh_kinds.Statement.{statement}
+use Rattle.fresh.proofs.fresh_kinds.Tie as tie
 
 returns : tie.Need-returns
 returns c =
@@ -10,15 +10,15 @@ returns c =
     let c14 = c10 .before .before .before .before in
     let c18 = c14 .before .before .before .before in
     rw (
-      c .before .before .write-u164 .ensures,
-      c .before .before .before .before .before .before .write-u163 .ensures,
-      c10 .write-u162 .ensures,
-      c14 .write-u16 .ensures,
-      c18 .clear-u16 .ensures,
+      c .before .before .write-u84 .ensures,
+      c .before .before .before .before .before .before .write-u83 .ensures,
+      c10 .write-u82 .ensures,
+      c14 .write-u8 .ensures,
+      c18 .clear-u8 .ensures,
     )
 
-pub fresh-nexts-spec : {M : Type 1} → statement M
-fresh-nexts-spec =
+pub fresh-kinds-spec : {M : Type 1} → statement M
+fresh-kinds-spec =
     tie.close
     (tie.spec
     (λ c κs. search needs) (λ c κs. search needs) (λ c κs. search needs) (λ c κs. search needs) (λ c κs. search needs)

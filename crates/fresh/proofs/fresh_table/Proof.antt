@@ -1,8 +1,8 @@
 -- `fresh_table` lays down the four columns.
 -- Assumes nothing.
 use borrow.Author.Needs.{needs}
-use Rattle.list.proofs.fresh.fresh_table.Statement.{statement}
-use Rattle.list.proofs.fresh.fresh_table.Tie as tie
+use Rattle.fresh.proofs.fresh_table.Statement.{statement}
+use Rattle.fresh.proofs.fresh_table.Tie as tie
 
 returns : tie.Need-returns
 returns c =

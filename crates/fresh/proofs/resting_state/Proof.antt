@@ -1,8 +1,8 @@
 -- `resting_state` has sixteen blank parties.
 -- Assumes nothing.
 use borrow.Author.Needs.{needs}
-use Rattle.list.proofs.fresh.resting_state.Statement.{statement}
-use Rattle.list.proofs.fresh.resting_state.Tie as tie
+use Rattle.fresh.proofs.resting_state.Statement.{statement}
+use Rattle.fresh.proofs.resting_state.Tie as tie
 
 returns : tie.Need-returns
 returns c = rw (c .blank .ensures)

@@ -11,10 +11,10 @@ ghost use mathlib.Core.Path.{_≡_};
 ghost use lib.ListN.{length};
 ghost use Rattle.columns.specs.Column.{zeros};
 ghost use Rattle.rows.specs.Table.{tab};
-ghost use Rattle.list.specs.Engine.{ends, restingState};
+ghost use Rattle.fresh.specs.Fresh.{ends, restingState};
 
 // Rows 0 to 3 are end rows, the others unused.
-pub(crate) fn fresh_kinds(kind: &mut [u8])
+fn fresh_kinds(kind: &mut [u8])
     ensures { λ r. ⌜ now (kind .exit) ≡ ends (zeros (length (now (kind .entry)))) 1 1 1 1 ⌝ }
 {
     clear_u8(kind);
@@ -25,7 +25,7 @@ pub(crate) fn fresh_kinds(kind: &mut [u8])
 }
 
 // The end rows follow each other; the last one's own number stands for none.
-pub(crate) fn fresh_nexts(next: &mut [u16])
+fn fresh_nexts(next: &mut [u16])
     ensures { λ r. ⌜ now (next .exit) ≡ ends (zeros (length (now (next .entry)))) 1 2 3 3 ⌝ }
 {
     clear_u16(next);
@@ -36,7 +36,7 @@ pub(crate) fn fresh_nexts(next: &mut [u16])
 }
 
 // The columns of an empty list.
-pub(crate) fn fresh_table(kind: &mut [u8], key: &mut [u32], next: &mut [u16], back: &mut [u16])
+pub fn fresh_table(kind: &mut [u8], key: &mut [u32], next: &mut [u16], back: &mut [u16])
     ensures { λ r. ⌜ tab (now (kind .exit)) (now (key .exit)) (now (next .exit)) (now (back .exit)) ≡ tab (ends (zeros (length (now (kind .entry)))) 1 1 1 1) (zeros (length (now (key .entry)))) (ends (zeros (length (now (next .entry)))) 1 2 3 3) (zeros (length (now (back .entry)))) ⌝ }
 {
     fresh_kinds(kind);
@@ -46,7 +46,7 @@ pub(crate) fn fresh_table(kind: &mut [u8], key: &mut [u32], next: &mut [u16], ba
 }
 
 // The state of resting parties, with so many rows taken.
-pub(crate) fn resting_state(parties: u8, taken: u16) -> State
+pub fn resting_state(parties: u8, taken: u16) -> State
     ensures { λ r. ⌜ r ≡ restingState parties taken ⌝ }
 {
     let none = Party::blank();

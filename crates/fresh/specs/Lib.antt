@@ -1,0 +1,2 @@
+-- What an empty list is.
+pub mod Fresh
