@@ -14,7 +14,7 @@ use borrow.Author.Tests.{leb-true, leb-false, ltb-false, eqb-false, lt-ltb, le-l
 use Rattle.refusal.specs.Answer.{accepted, Left, left, Tests, passed, refusing, leaving}
 use Rattle.refusal.proofs.Laws.{past-test, change-past}
 use Rattle.columns.specs.Column.{at, zeros}
-use Rattle.columns.proofs.Every.{and-left, and-right, and-both}
+use Rattle.columns.proofs.Every.{and-left, and-both}
 use Rattle.rows.specs.declared.Write.the-variants.{Item}
 use Rattle.rows.specs.Table.{Table}
 use Rattle.rows.specs.Writes.{written}
@@ -30,26 +30,12 @@ use Rattle.party.specs.Party.{blank, partyAt, withParty, withTaken, starting, l
 use Rattle.moves.specs.declared.Moved.{Moved}
 use Rattle.moves.specs.Moves.{placeOf}
 use Rattle.bare.specs.Bare.{Machine, machine, partyOf, startOf, begunOf, started, bareCallOf, bareMoveOf}
-use Rattle.form.specs.Form.{
-  kindFits,
-  keyFits,
-  linkFits,
-  isAdd,
-  isRemove,
-  isIdle,
-  noneOrSpare,
-  ownFits,
-  recordFits,
-  partyFits,
-  rowsIn,
-  columnsAgree,
-  goodForm,
-}
+use Rattle.form.specs.Form.{kindFits, keyFits, linkFits, isAdd, isRemove, isIdle, noneOrSpare, ownFits, recordFits, partyFits, rowsIn, goodForm}
 use Rattle.fresh.specs.Fresh.{freshTable, restingState}
-use Rattle.list.specs.Engine.{badTable, formTests, badParties, setUpTests, setUpOf, callNamed, noRow, callAsks, callTests, callOf, moveAsks, moveTests, accepting, moveOf}
-use Rattle.list.proofs.Laws.{neither}
+use Rattle.list.specs.Engine.{badParties, setUpTests, setUpOf, callNamed, noRow, callAsks, callTests, callOf, moveAsks, moveTests, accepting, moveOf}
+use Rattle.list.proofs.Laws.{neither, past-form, table-fits, past-set-up}
 use Rattle.list.specs.Claims.{SetUpIsGood, BlankIsBad, CallKeeps, MoveKeeps}
-use Rattle.form.proofs.Good.{two, Each, Rows, Fits, fits, Good, good, good-form}
+use Rattle.form.proofs.Good.{Each, Rows, Fits, fits, Good, good, good-form}
 use Rattle.list.proofs.Keeps.{row-keeps, item-fits, write-keeps, party-keeps, FitMove, move-fits}
 
 -- ---- what the tests tell
@@ -60,20 +46,6 @@ kept-past : {M A : Type 0} (P : M → Type 0) (tests : Tests) (found : M) (chang
 kept-past P tests found changed value e h =
     let passes : tests ≡ passed = change-past tests found changed value e in
     rw passes (h passes)
-
-past-form : (m : Machine) (asked : Tests) → formTests m asked ≡ passed → (badTable (m .table) ≡ false) × (goodForm m ≡ true) × (asked ≡ passed)
-past-form m asked passes =
-    let first = past-test (badTable (m .table)) 1 (refusing (not (goodForm m)) 3 asked) passes in
-    let second = past-test (not (goodForm m)) 3 asked (first .1) in
-    (first .0, not-false (goodForm m) (second .0), second .1)
-
--- N is between 4 and 4,096
-long-enough : (t : Table) → badTable t ≡ false → (4 ≤ length (t .kind)) × (length (t .kind) ≤ 4096)
-long-enough t h =
-    let N : ℕ = length (t .kind) in
-    let agree : Bool = columnsAgree N (length (t .key)) (length (t .next)) (length (t .back)) in
-    let inside = two (leb 4 N) (leb N 4096) (and-right agree (leb 4 N && leb N 4096) (not-false (agree && (leb 4 N && leb N 4096)) h)) in
-    (leb-true 4 N (inside .0), leb-true N 4096 (inside .1))
 
 -- ---- set-up
 
@@ -137,9 +109,8 @@ set-up-is-good t parties e =
     kept-past (λ (m : Machine). goodForm m ≡ true) (setUpTests t parties) (machine t (restingState 0 0))
     (left (machine (freshTable (rowsIn t)) (restingState parties 4)) passed) tt e
     (λ (passes : setUpTests t parties ≡ passed).
-    let first = past-test (badTable t) 1 (refusing (badParties parties) 2 passed) passes in
-    let second = past-test (badParties parties) 2 passed (first .1) in
-    good-form (machine (freshTable (rowsIn t)) (restingState parties 4)) (fresh-good (rowsIn t) parties (long-enough t (first .0) .0) (second .0)))
+    let fair = past-set-up t parties passes in
+    good-form (machine (freshTable (rowsIn t)) (restingState parties 4)) (fresh-good (rowsIn t) parties (table-fits t (fair .0) .3) (fair .1)))
 
 pub blank-is-bad : BlankIsBad
 blank-is-bad t h = let ends : 4 ≤ 0 = good (machine t (restingState 0 0)) h .rows .ends in omega arith
@@ -303,5 +274,5 @@ call-keeps m party code key e =
     let third = past-test (ltb 2 code) 6 (refusing full 7 passed) (second .1) in
     let fourth = past-test full 7 passed (third .1) in
     good-form (bareCallOf m party (callNamed code) key)
-    (call-good m party key g (leb-false (m .state .count) party (first .0)) (callNamed code) (long-enough (m .table) (form .0) .1)
+    (call-good m party key g (leb-false (m .state .count) party (first .0)) (callNamed code) (table-fits (m .table) (form .0) .4)
     (not-false idle (second .0)) (fourth .0)))

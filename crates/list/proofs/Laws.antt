@@ -8,7 +8,7 @@ use native.Mathlib.Nat.{zero-add}
 use lib.ListN.{length}
 use lib.Seq.{sets, sets-eq}
 use lib.Dec.{eqb, ltb, leb}
-use borrow.Author.Tests.{ltb-false, eqb-true, not-false}
+use borrow.Author.Tests.{ltb-false, leb-true, eqb-true, not-false}
 use Rattle.refusal.specs.declared.Refusal.{Refusal}
 use Rattle.refusal.specs.declared.Verdict.{Verdict}
 use Rattle.refusal.specs.declared.Verdict.the-variants.{Accepted, Refused}
@@ -17,14 +17,14 @@ use Rattle.refusal.specs.Answer.{accepted, refused, Left, left, Tests, passed, 
 use Rattle.refusal.proofs.Laws.{past-test}
 use Rattle.refusal.proofs.Told.{tests-told}
 use Rattle.columns.specs.Column.{zeros}
-use Rattle.columns.proofs.Every.{and-left, and-right}
 use Rattle.rows.specs.Table.{Table, tab}
 use Rattle.party.specs.declared.Call.{Call}
 use Rattle.party.specs.declared.Call.the-variants.{Contains}
 use Rattle.party.specs.declared.State.{State}
 use Rattle.moves.specs.declared.Said.{Said}
 use Rattle.bare.specs.Bare.{Machine, machine, stepped, bareCallOf, bareMoveOf}
-use Rattle.form.specs.Form.{rowsIn, columnsAgree, goodForm}
+use Rattle.form.proofs.Good.{two}
+use Rattle.form.specs.Form.{rowsIn, goodForm}
 use Rattle.fresh.specs.Fresh.{ends, freshTable, restingState}
 use Rattle.list.specs.Engine.{badTable, formTests, badParties, setUpTests, setUpOf, callNamed, callAsks, callTests, callOf, moveAsks, moveTests, accepting, moveOf, chainRises, liveKeys, listTests, placesWith, listOf}
 
@@ -52,32 +52,49 @@ pub neither : (a b : Bool) → a || b ≡ false → (a ≡ false) × (b ≡ fals
 neither true b h = absurd (true≢false h)
 neither false b h = (refl, h)
 
+-- where the tests of a machine pass, the table does, the form does, and what is asked beside them
+pub past-form : (m : Machine) (asked : Tests) → formTests m asked ≡ passed → (badTable (m .table) ≡ false) × (goodForm m ≡ true) × (asked ≡ passed)
+past-form m asked passes =
+    let first = past-test (badTable (m .table)) 1 (refusing (not (goodForm m)) 3 asked) passes in
+    let second = past-test (not (goodForm m)) 3 asked (first .1) in
+    (first .0, not-false (goodForm m) (second .0), second .1)
+
+-- a table that passes has columns of one length, from 4 to 4,096
+pub table-fits : (t : Table) → badTable t ≡ false →
+    (length (t .key) ≡ rowsIn t) × (length (t .next) ≡ rowsIn t) × (length (t .back) ≡ rowsIn t) × (4 ≤ rowsIn t) × (rowsIn t ≤ 4096)
+table-fits t fits =
+    let N : ℕ = length (t .kind) in
+    let key : Bool = eqb (length (t .key)) N in
+    let next : Bool = eqb (length (t .next)) N in
+    let back : Bool = eqb (length (t .back)) N in
+    let all = two (key && next && back) (leb 4 N && leb N 4096) (not-false (key && next && back && (leb 4 N && leb N 4096)) fits) in
+    let agree = two (key && next) back (all .0) in
+    let first = two key next (agree .0) in
+    let inside = two (leb 4 N) (leb N 4096) (all .1) in (
+      eqb-true (length (t .key)) N (first .0),
+      eqb-true (length (t .next)) N (first .1),
+      eqb-true (length (t .back)) N (agree .1),
+      leb-true 4 N (inside .0),
+      leb-true N 4096 (inside .1),
+    )
+
 -- ---- set-up
 
--- columns that pass have one length
-pub one-length : (t : Table) → badTable t ≡ false → (length (t .key) ≡ rowsIn t) × (length (t .next) ≡ rowsIn t) × (length (t .back) ≡ rowsIn t)
-one-length t good =
-    let agree : columnsAgree (length (t .kind)) (length (t .key)) (length (t .next)) (length (t .back)) ≡ true =
-    and-left _ (leb 4 (length (t .kind)) && leb (length (t .kind)) 4096) (not-false _ good) in
-    let two : eqb (length (t .key)) (length (t .kind)) && eqb (length (t .next)) (length (t .kind)) ≡ true = and-left _ (eqb (length (t .back)) (length (t .kind))) agree in
-    (eqb-true _ _ (and-left _ (eqb (length (t .next)) (length (t .kind))) two), eqb-true _ _ (and-right (eqb (length (t .key)) (length (t .kind))) _ two), eqb-true _ _ (and-right (eqb (length (t .key)) (length (t .kind)) && eqb (length (t .next)) (length (t .kind))) _ agree))
-
 module _ (t : Table) (parties : ℕ) where
-  table-passes : setUpTests t parties ≡ passed → badTable t ≡ false
-  table-passes passes = past-test (badTable t) 1 (refusing (badParties parties) 2 passed) passes .0
-
-  parties-pass : setUpTests t parties ≡ passed → badParties parties ≡ false
-  parties-pass passes = past-test (badParties parties) 2 passed (past-test (badTable t) 1 (refusing (badParties parties) 2 passed) passes .1) .0
+  pub past-set-up : setUpTests t parties ≡ passed → (badTable t ≡ false) × (badParties parties ≡ false)
+  past-set-up passes =
+      let first = past-test (badTable t) 1 (refusing (badParties parties) 2 passed) passes in
+      (first .0, past-test (badParties parties) 2 passed (first .1) .0)
 
   -- then the number of parties is small
   pub few-parties : setUpTests t parties ≡ passed → parties ≤ 16
-  few-parties passes = ltb-false 16 parties (neither (eqb parties 0) (ltb 16 parties) (parties-pass passes) .1)
+  few-parties passes = ltb-false 16 parties (neither (eqb parties 0) (ltb 16 parties) (past-set-up passes .1) .1)
 
   -- four columns, each fresh by its own length, are the fresh table of so many rows
   fresh-so : {t′ : Table} → badTable t ≡ false →
       t′ ≡ tab (ends (zeros (length (t .kind))) 1 1 1 1) (zeros (length (t .key))) (ends (zeros (length (t .next))) 1 2 3 3) (zeros (length (t .back))) →
       t′ ≡ freshTable (rowsIn t)
-  fresh-so good is = let same = one-length t good in is ∙ rw (same .0, same .1, same .2)
+  fresh-so good is = let same = table-fits t good in is ∙ rw (same .0, same .1, same .2)
 
   pub set-up-accepts : {verdict : Verdict} {t′ : Table} {st : State} → verdictIs verdict ≡ setUpTests t parties → verdict ≡ Accepted →
       t′ ≡ tab (ends (zeros (length (t .kind))) 1 1 1 1) (zeros (length (t .key))) (ends (zeros (length (t .next))) 1 2 3 3) (zeros (length (t .back))) →
@@ -85,7 +102,7 @@ module _ (t : Table) (parties : ℕ) where
   unfolding setUpOf
   set-up-accepts tests is lays rests =
       let passes : setUpTests t parties ≡ passed = tests-told tests is in
-      rw (is, fresh-so (table-passes passes) lays, rests) (leaves-changed (setUpTests t parties) (machine t (restingState 0 0)) (left (machine (freshTable (rowsIn t)) (restingState parties 4)) passed) passes)
+      rw (is, fresh-so (past-set-up passes .0) lays, rests) (leaves-changed (setUpTests t parties) (machine t (restingState 0 0)) (left (machine (freshTable (rowsIn t)) (restingState parties 4)) passed) passes)
 
   pub set-up-refuses : {verdict : Verdict} {why : Refusal} {st : State} → verdictIs verdict ≡ setUpTests t parties → verdict ≡ Refused why →
       st ≡ restingState 0 0 → left (machine t st) (verdictIs verdict) ≡ setUpOf t parties
@@ -134,9 +151,8 @@ module _ (m : Machine) (places : List ℕ) where
   -- where the tests pass there is a place for each key
   room : listTests m (length places) ≡ passed → length (liveKeys m) ≤ length places
   room passes =
-      let past-one = past-test (badTable (m .table)) 1 (refusing (not (goodForm m)) 3 (listAsks m (length places))) passes .1 in
-      let past-form = past-test (not (goodForm m)) 3 (listAsks m (length places)) past-one .1 in
-      let past-rise = past-test (not (chainRises m)) 3 (refusing (ltb (length places) (length (liveKeys m))) 10 passed) past-form .1 in
+      let asked = past-form m (listAsks m (length places)) passes .2 in
+      let past-rise = past-test (not (chainRises m)) 3 (refusing (ltb (length places) (length (liveKeys m))) 10 passed) asked .1 in
       ltb-false (length places) (length (liveKeys m)) (past-test (ltb (length places) (length (liveKeys m))) 10 passed past-rise .0)
 
   pub list-accepts : (asked : Verdict) {verdict : Verdict} {rise : Bool} {count : ℕ} {after : List ℕ} →

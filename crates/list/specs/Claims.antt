@@ -55,6 +55,7 @@ FuelNeverDecides = (m : Machine) (more : ℕ) → goodForm m ≡ true →
 
 -- ---- what a refusal leaves is what came
 
+-- of a set-up that is the columns; no state came, and the one without parties and rows goes back
 abbrev pub RefusedSetUpLeaves : Type 0
 RefusedSetUpLeaves = (t : Table) (parties number : ℕ) → setUpOf t parties .answer ≡ refused number → setUpOf t parties .memory ≡ machine t (restingState 0 0)
 
