@@ -1,0 +1,16 @@
+-- The keys of the rows from a row on that are items and not removed, in the order of the list, up to row 2.
+use Prim.Native.Nat.{ℕ, zero, suc, _+_, _-_, _≤_, _<_, min}
+use mathlib.Core.Path.{_≡_}
+use mathlib.Core.List.{List, [], _∷_}
+use Rattle.world.specs.World.{World, succ, Open}
+
+pub data Chain (w : World) : ℕ → List ℕ → Type 0 where
+  end : {a : ℕ} → a ≡ 2 → Chain w a []
+  live : {a k : ℕ} {keys : List ℕ} → w .rank 1 < w .rank a → w .rank a < w .rank 2 → Open w a → w .rank a ≡ 3 + k → Chain w (succ w a) keys → Chain w a (k ∷ keys)
+  -- a removed row, or an end
+  past : {a : ℕ} {keys : List ℕ} → w .rank a < w .rank 2 → (Open w a → w .rank a ≤ w .rank 1) → Chain w (succ w a) keys → Chain w a keys
+
+-- how many of the first n rows have a rank above r: what a walk from rank r has left
+pub ahead : (ℕ → ℕ) → (r n : ℕ) → ℕ
+ahead f r zero = 0
+ahead f r (suc n) = min 1 (f n - r) + ahead f r n

@@ -1,0 +1,21 @@
+-- What a party on its way knows of the list; K is the rank of its key.
+use Prim.Native.Nat.{ℕ, _≤_, _<_}
+use Rattle.world.specs.World.{World, Chunk, Row}
+
+-- the rank of a key: between rows 1 and 2
+pub record Key (w : World) (K : ℕ) : Type 0 where
+  pub over : w .rank 1 < K
+  pub under : K < w .rank 2
+
+-- p is a row below the key
+pub record Behind (w : World) (K p : ℕ) : Type 0 where
+  pub key : Key w K
+  pub row : Row w p
+  pub low : w .rank p < K
+
+-- n was the next of p, and c is reached from n through removed rows
+pub record Walking (w : World) (K p n c : ℕ) : Type 0 where
+  pub behind : Behind w K p
+  pub row : Row w n
+  pub top : w .rank n ≤ w .rank 2
+  pub chunk : Chunk w c n
