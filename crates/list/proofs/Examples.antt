@@ -7,11 +7,11 @@ use Rattle.bare.specs.Bare.{begunOf, bareCallOf, bareMoveOf}
 use Rattle.form.specs.Form.{kindsFit, keysFit, linksFit, recordFits, partiesFit, goodForm}
 use Rattle.chain.specs.Chain.{rises, liveFrom}
 use Rattle.list.specs.Engine.{setUpOf, callOf, moveOf, listOf}
-use Rattle.list.specs.Run.{after, replies}
+use Rattle.list.specs.Run.{run, replies}
 use Rattle.list.specs.Examples.{Examples}
 
 pub examples : Examples
-unfolding after replies setUpOf callOf moveOf listOf rises liveFrom goodForm kindsFit keysFit linksFit recordFits partiesFit bareCallOf begunOf bareMoveOf walkOf onwardOf landedAddOf landedRemoveOf landedContainsOf prepareOf skipOf addSwapOf markOf rereadOf cleanOf backOf lookOf rank
+unfolding run replies setUpOf callOf moveOf listOf rises liveFrom goodForm kindsFit keysFit linksFit recordFits partiesFit bareCallOf begunOf bareMoveOf walkOf onwardOf landedAddOf landedRemoveOf landedContainsOf prepareOf skipOf addSwapOf markOf rereadOf cleanOf backOf lookOf rank
 examples = (
   (refl, refl, refl, refl),
   (refl, refl, refl),

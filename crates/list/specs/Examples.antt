@@ -11,7 +11,7 @@ use Rattle.bare.specs.Bare.{Machine, machine}
 use Rattle.form.specs.Form.{goodForm}
 use Rattle.fresh.specs.Fresh.{restingState}
 use Rattle.list.specs.Engine.{setUpOf, liveKeys, listOf}
-use Rattle.list.specs.Run.{Asked, calls, moves, after, replies, going, yes, no, fresh}
+use Rattle.list.specs.Run.{Event, calls, moves, run, replies, going, yes, no, fresh}
 
 -- moves, won and lost
 abbrev pub tallies : Machine → List ℕ
@@ -19,7 +19,7 @@ tallies m = m .state .moves ∷ m .state .won ∷ m .state .lost ∷ []
 
 -- key 5 is in the list, and party 0 has marked it and not yet cleaned: an ADD in 3 moves, a REMOVE up to its MARK in 3
 abbrev pub markedFive : Machine
-markedFive = after (fresh 12 2) (calls 0 0 5 ∷ moves 0 ∷ moves 0 ∷ moves 0 ∷ calls 0 1 5 ∷ moves 0 ∷ moves 0 ∷ moves 0 ∷ [])
+markedFive = run (fresh 12 2) (calls 0 0 5 ∷ moves 0 ∷ moves 0 ∷ moves 0 ∷ calls 0 1 5 ∷ moves 0 ∷ moves 0 ∷ moves 0 ∷ [])
 
 -- a fresh list has no keys and four rows taken; a CONTAINS there is answered no by its second move, and takes no row
 abbrev pub Fresh : Type 0
@@ -27,33 +27,33 @@ Fresh =
     (liveKeys (fresh 8 1) ≡ [])
     × (fresh 8 1 .state .taken ≡ 4)
     × (replies (fresh 8 1) (calls 0 2 5 ∷ moves 0 ∷ moves 0 ∷ []) ≡ going ∷ going ∷ no ∷ [])
-    × (after (fresh 8 1) (calls 0 2 5 ∷ moves 0 ∷ moves 0 ∷ []) .state .taken ≡ 4)
+    × (run (fresh 8 1) (calls 0 2 5 ∷ moves 0 ∷ moves 0 ∷ []) .state .taken ≡ 4)
 
 -- an ADD alone on an empty list takes three moves: not one, and not none
 abbrev pub AddAlone : Type 0
 AddAlone =
     (replies (fresh 8 1) (calls 0 0 5 ∷ moves 0 ∷ moves 0 ∷ moves 0 ∷ []) ≡ going ∷ going ∷ going ∷ yes ∷ [])
-    × (liveKeys (after (fresh 8 1) (calls 0 0 5 ∷ moves 0 ∷ moves 0 ∷ [])) ≡ [])
-    × (liveKeys (after (fresh 8 1) (calls 0 0 5 ∷ moves 0 ∷ moves 0 ∷ moves 0 ∷ [])) ≡ 5 ∷ [])
+    × (liveKeys (run (fresh 8 1) (calls 0 0 5 ∷ moves 0 ∷ moves 0 ∷ [])) ≡ [])
+    × (liveKeys (run (fresh 8 1) (calls 0 0 5 ∷ moves 0 ∷ moves 0 ∷ moves 0 ∷ [])) ≡ 5 ∷ [])
 
 -- a REMOVE on an empty list is answered no, and its row is the spare of the party's next ADD
 abbrev pub SpareUsed : Type 0
 SpareUsed =
     (replies (fresh 8 1) (calls 0 1 5 ∷ moves 0 ∷ moves 0 ∷ []) ≡ going ∷ going ∷ no ∷ [])
-    × (after (fresh 8 1) (calls 0 1 5 ∷ moves 0 ∷ moves 0 ∷ calls 0 0 7 ∷ []) .state .taken ≡ 5)
+    × (run (fresh 8 1) (calls 0 1 5 ∷ moves 0 ∷ moves 0 ∷ calls 0 0 7 ∷ []) .state .taken ≡ 5)
 
 -- a REMOVE of the only key takes four moves; the key is gone with the third, its MARK
 abbrev pub RemoveOnly : Type 0
 RemoveOnly =
-    let m = after (fresh 8 1) (calls 0 0 5 ∷ moves 0 ∷ moves 0 ∷ moves 0 ∷ []) in
+    let m = run (fresh 8 1) (calls 0 0 5 ∷ moves 0 ∷ moves 0 ∷ moves 0 ∷ []) in
     (replies m (calls 0 1 5 ∷ moves 0 ∷ moves 0 ∷ moves 0 ∷ moves 0 ∷ []) ≡ going ∷ going ∷ going ∷ going ∷ yes ∷ [])
-    × (liveKeys (after m (calls 0 1 5 ∷ moves 0 ∷ moves 0 ∷ [])) ≡ 5 ∷ [])
-    × (liveKeys (after m (calls 0 1 5 ∷ moves 0 ∷ moves 0 ∷ moves 0 ∷ [])) ≡ [])
+    × (liveKeys (run m (calls 0 1 5 ∷ moves 0 ∷ moves 0 ∷ [])) ≡ 5 ∷ [])
+    × (liveKeys (run m (calls 0 1 5 ∷ moves 0 ∷ moves 0 ∷ moves 0 ∷ [])) ≡ [])
 
 -- keys are compared as unsigned numbers: 0 comes before 4,294,967,295, in whatever order they were entered
 abbrev pub KeysUnsigned : Type 0
 KeysUnsigned =
-    liveKeys (after (fresh 8 1) (calls 0 0 4294967295 ∷ moves 0 ∷ moves 0 ∷ moves 0 ∷ calls 0 0 0 ∷ moves 0 ∷ moves 0 ∷ moves 0 ∷ []))
+    liveKeys (run (fresh 8 1) (calls 0 0 4294967295 ∷ moves 0 ∷ moves 0 ∷ moves 0 ∷ calls 0 0 0 ∷ moves 0 ∷ moves 0 ∷ moves 0 ∷ []))
     ≡ 0 ∷ 4294967295 ∷ []
 
 -- a landed row that is removed is not present
@@ -66,25 +66,25 @@ abbrev pub AddOverRemoved : Type 0
 AddOverRemoved =
     (replies markedFive (calls 1 0 5 ∷ moves 1 ∷ moves 1 ∷ moves 1 ∷ moves 1 ∷ moves 0 ∷ moves 0 ∷ moves 0 ∷ [])
     ≡ going ∷ going ∷ going ∷ going ∷ yes ∷ going ∷ going ∷ yes ∷ [])
-    × (tallies (after markedFive (calls 1 0 5 ∷ moves 1 ∷ moves 1 ∷ moves 1 ∷ moves 1 ∷ moves 0 ∷ moves 0 ∷ moves 0 ∷ [])) ≡ 13 ∷ 3 ∷ 1 ∷ [])
+    × (tallies (run markedFive (calls 1 0 5 ∷ moves 1 ∷ moves 1 ∷ moves 1 ∷ moves 1 ∷ moves 0 ∷ moves 0 ∷ moves 0 ∷ [])) ≡ 13 ∷ 3 ∷ 1 ∷ [])
 
 -- of two REMOVEs that stand at MARK for the same key one takes it out, and the other finds out by its reread
 abbrev pub OneRemoves : Type 0
 OneRemoves =
-    replies (after (fresh 12 2) (calls 0 0 5 ∷ moves 0 ∷ moves 0 ∷ moves 0 ∷ calls 0 1 5 ∷ calls 1 1 5 ∷ moves 0 ∷ moves 0 ∷ moves 1 ∷ moves 1 ∷ []))
+    replies (run (fresh 12 2) (calls 0 0 5 ∷ moves 0 ∷ moves 0 ∷ moves 0 ∷ calls 0 1 5 ∷ calls 1 1 5 ∷ moves 0 ∷ moves 0 ∷ moves 1 ∷ moves 1 ∷ []))
     (moves 0 ∷ moves 1 ∷ moves 1 ∷ moves 0 ∷ [])
     ≡ going ∷ going ∷ no ∷ yes ∷ []
 
 -- the run of document 01: an ADD that loses its swap tries again with the same row, so that six rows are taken; 10 moves, 2 won, 1 lost
-abbrev pub collision : List Asked
+abbrev pub collision : List Event
 collision =
     calls 0 0 5 ∷ calls 1 0 7 ∷ moves 0 ∷ moves 0 ∷ moves 1 ∷ moves 1 ∷ moves 0 ∷ moves 1 ∷ moves 1 ∷ moves 1 ∷ moves 1 ∷ moves 1 ∷ []
 
 abbrev pub RetryKeepsRow : Type 0
 RetryKeepsRow =
-    (liveKeys (after (fresh 16 2) collision) ≡ 5 ∷ 7 ∷ [])
-    × (after (fresh 16 2) collision .state .taken ≡ 6)
-    × (tallies (after (fresh 16 2) collision) ≡ 10 ∷ 2 ∷ 1 ∷ [])
+    (liveKeys (run (fresh 16 2) collision) ≡ 5 ∷ 7 ∷ [])
+    × (run (fresh 16 2) collision .state .taken ≡ 6)
+    × (tallies (run (fresh 16 2) collision) ≡ 10 ∷ 2 ∷ 1 ∷ [])
 
 -- refusals by their numbers: no such party, an idle party's move, a busy party's call, an unknown call, no row left, none needed
 abbrev pub Refusals : Type 0
@@ -95,13 +95,13 @@ Refusals =
 
 -- party 0 has an ADD under way, and so many moves have been made
 abbrev pub spent : ℕ → Machine
-spent made = let m = after (fresh 8 1) (calls 0 0 5 ∷ []) in machine (m .table) (counted made 0 0 (m .state))
+spent made = let m = run (fresh 8 1) (calls 0 0 5 ∷ []) in machine (m .table) (counted made 0 0 (m .state))
 
 -- the last move is number 16,777,216
 abbrev pub LastMove : Type 0
 LastMove =
     (replies (spent 16777215) (moves 0 ∷ moves 0 ∷ []) ≡ going ∷ refused 9 ∷ [])
-    × (after (spent 16777215) (moves 0 ∷ moves 0 ∷ []) .state .moves ≡ 16777216)
+    × (run (spent 16777215) (moves 0 ∷ moves 0 ∷ []) .state .moves ≡ 16777216)
 
 -- columns of so many rows, all zeros
 abbrev pub bare : ℕ → Table

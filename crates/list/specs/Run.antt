@@ -1,4 +1,4 @@
--- Calls and moves one after another, for examples: the state that they leave and what each is answered.
+-- Events, which are calls and moves, one after another: the state that they leave and what each is answered.
 use mathlib.Core.List.{List, [], _∷_}
 use Prim.Native.Nat.{ℕ}
 use lib.ListN.{replicate}
@@ -9,30 +9,31 @@ use Rattle.moves.specs.declared.Said.the-variants.{Nothing, Yes, No}
 use Rattle.bare.specs.Bare.{Machine}
 use Rattle.list.specs.Engine.{setUpOf, callOf, moveOf}
 
--- what is asked of the engine: a call of a party by its code and key, or a move
-pub data Asked : Type 0 where
-  calls : (party code key : ℕ) → Asked
-  moves : (party : ℕ) → Asked
+-- what the engine is asked for: a call of a party by its code and key, or a move
+pub data Event : Type 0 where
+  calls : (party code key : ℕ) → Event
+  moves : (party : ℕ) → Event
 
 -- an accepted call says nothing
 abbrev pub quiet : Tests → Answer Said
 quiet (accepted done) = accepted Nothing
 quiet (refused number) = refused number
 
-abbrev pub asked : Machine → Asked → Left Machine Said
-asked m (calls party code key) =
+-- what an event leaves, and its answer
+abbrev pub turnOf : Machine → Event → Left Machine Said
+turnOf m (calls party code key) =
     record { memory = callOf m party code key .memory; answer = quiet (callOf m party code key .answer) }
-asked m (moves party) = moveOf m party
+turnOf m (moves party) = moveOf m party
 
 -- the state after all of them
-unfoldable pub after : Machine → List Asked → Machine
-after m [] = m
-after m (first ∷ rest) = after (asked m first .memory) rest
+unfoldable pub run : Machine → List Event → Machine
+run m [] = m
+run m (first ∷ rest) = run (turnOf m first .memory) rest
 
 -- what each of them is answered
-unfoldable pub replies : Machine → List Asked → List (Answer Said)
+unfoldable pub replies : Machine → List Event → List (Answer Said)
 replies m [] = []
-replies m (first ∷ rest) = asked m first .answer ∷ replies (asked m first .memory) rest
+replies m (first ∷ rest) = turnOf m first .answer ∷ replies (turnOf m first .memory) rest
 
 -- the answers by short names
 abbrev pub going : Answer Said

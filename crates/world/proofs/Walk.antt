@@ -11,20 +11,7 @@ use Rattle.world.specs.Writes.{Fresh, Mark, Swing, Write}
 use Rattle.world.proofs.Extends.{chunk-ext, row-ext}
 use Rattle.world.proofs.World.{chunk-row, chunk-trans, reach-le, row-succ, skip-pos}
 
-pub record Seen (w : World) (c s : ℕ) : Type 0 where
-  pub at : w .next c ≡ s
-  pub is : w .rank s ≡ 0
-
-pub seen : {w : World} {c : ℕ} → Marked w c → Seen w c (w .next c)
-seen M = record { at = refl; is = M }
-
-pub seen-marked : {w : World} {c s : ℕ} → Seen w c s → Marked w c
-seen-marked h = rw (h .at) (h .is)
-
 module _ {w w′ : World} (g : Good w) (t : Extends w w′) where
-  pub seen-ext : {c s : ℕ} → w .Pub c → Seen w c s → Seen w′ c s
-  seen-ext {c} {s} p h = record { at = t .next c p (seen-marked h) ∙ h .at; is = rw (t .rank s (rw (h .at) at (g .each c p .closed))) (h .is) }
-
   pub key-ext : {K : ℕ} → Key w K → Key w′ K
   key-ext k = record { over = rw (t .rank 1 (g .one .known)) (k .over); under = rw (t .rank 2 (g .two .known)) (k .under) }
 
@@ -116,7 +103,7 @@ module _ {w : World} (g : Good w) {K : ℕ} where
       new = new;
     }
 
--- ticket 10: as long as the key stays live, its row is reached from where the party stands
+-- as long as the key stays live, its row is reached from where the party stands
 module _ {w : World} (g : Good w) {K y : ℕ} (is : w .rank y ≡ K) where
   pub track-on : {c : ℕ} → Reach w y c → w .rank c < K → Reach w y (succ w c)
   track-on (stop e) h = absurd (omega (arith, ap (w .rank) e))

@@ -11,6 +11,6 @@ pub data Chain (w : World) : ℕ → List ℕ → Type 0 where
   past : {a : ℕ} {keys : List ℕ} → w .rank a < w .rank 2 → (Open w a → w .rank a ≤ w .rank 1) → Chain w (succ w a) keys → Chain w a keys
 
 -- how many of the first n rows have a rank above r: what a walk from rank r has left
-pub ahead : (ℕ → ℕ) → (r n : ℕ) → ℕ
-ahead f r zero = 0
-ahead f r (suc n) = min 1 (f n - r) + ahead f r n
+unfoldable pub rowsAbove : (ℕ → ℕ) → (r n : ℕ) → ℕ
+rowsAbove f r zero = 0
+rowsAbove f r (suc n) = min 1 (f n - r) + rowsAbove f r n
