@@ -1,0 +1,96 @@
+-- What is proved of every list grown from set-up: the second and the third demand of document 01 ("Three demands"), and what they stand on.
+use mathlib.Core.Path.{_≡_}
+use mathlib.Core.List.{List}
+use mathlib.Core.Bool.{true, false}
+use mathlib.Core.Logic.{_↔_}
+use Prim.Native.Nat.{ℕ, _+_, _-_, _*_, _<_, _≤_}
+use lib.Dec.{ltb}
+use lib.ListN.{length}
+use Rattle.refusal.specs.Answer.{accepted, left, passed, refusing, leaving}
+use Rattle.rows.specs.Table.{Table, keyAt}
+use Rattle.party.specs.declared.Party.{Party}
+use Rattle.bare.specs.Bare.{Machine, partyOf}
+use Rattle.form.specs.Form.{goodForm}
+use Rattle.chain.specs.Chain.{isLive, oneIf}
+use Rattle.list.specs.Engine.{badTable, liveKeys, placesWith, listOf}
+use Rattle.list.specs.Run.{Event, turnOf}
+use Rattle.world.specs.Keys.{Rising, has, placed, without}
+use Rattle.world.specs.Sum.{sum}
+use Rattle.grown.specs.History.{History, accepts, start, Grows, grown}
+use Rattle.grown.specs.Deeds.{Deed, called, read, added, marked, cleaned, lost, deedOf, countsOf}
+
+-- ---- good form
+
+-- whatever has happened since set-up, the state has good form, and the columns have a length that the engine takes
+abbrev pub Kept : Type 0
+Kept = (t : Table) (parties : ℕ) (history : History) → Grows t parties history →
+    (goodForm (grown t parties history) ≡ true) × (badTable (grown t parties history .table) ≡ false)
+
+-- ---- the listing
+
+-- a party that has not published its own row holds it
+abbrev pub Holds : Party → ℕ → Type 0
+Holds q row = (q .unpublished ≡ true) × (q .own ≡ row)
+
+-- taken, and held by no party
+abbrev pub Published : Machine → ℕ → Type 0
+Published m row = (row < m .state .taken) × ((party : ℕ) → Holds (partyOf m party) row → ⊥)
+
+-- a published item with this key that nobody has removed
+pub record LiveRow (m : Machine) (key : ℕ) : Type 0 where
+  pub row : ℕ
+  pub published : Published m row
+  pub live : isLive (m .table) row ≡ true
+  pub keyed : keyAt (m .table) row ≡ key
+
+-- of the refusals of a listing only 10 is left; what is listed rises, and is exactly the keys of the live rows
+abbrev pub Listed : Type 0
+Listed = (t : Table) (parties : ℕ) (history : History) → Grows t parties history →
+    let m = grown t parties history in
+    ((places : List ℕ) → listOf m places
+    ≡ leaving (refusing (ltb (length places) (length (liveKeys m))) 10 passed) places (left (placesWith (liveKeys m) places) (accepted (length (liveKeys m)))))
+    × Rising (liveKeys m)
+    × ((key : ℕ) → (has key (liveKeys m) ≡ true) ↔ LiveRow m key)
+
+-- ---- the second demand
+
+-- what an event does to the live keys, given as the lists before and after it
+abbrev pub Changes : Deed → (before after : List ℕ) → Type 0
+Changes called before after = after ≡ before
+Changes read before after = after ≡ before
+Changes (added key) before after = (has key before ≡ false) × (after ≡ placed key before)
+Changes (marked key) before after = (has key before ≡ true) × (after ≡ without key before)
+Changes cleaned before after = after ≡ before
+Changes lost before after = after ≡ before
+
+-- every accepted event after every accepted history
+abbrev pub Demand2 : Type 0
+Demand2 = (t : Table) (parties : ℕ) (history : History) (event : Event) → Grows t parties history →
+    let m = grown t parties history in
+    accepts m event ≡ true → Changes (deedOf m event) (liveKeys m) (liveKeys (turnOf m event .memory))
+
+-- ---- the third demand
+
+-- for every number of parties that set-up accepts, which is 1 to 16
+abbrev pub Demand3 : Type 0
+Demand3 = (t : Table) (parties : ℕ) (history : History) → Grows t parties history →
+    let m = grown t parties history in
+    let counts = countsOf (start t parties) history in
+    (counts .lost ≤ (parties - 1) * counts .won)
+    × (counts .won ≤ counts .ins + 2 * counts .outs)
+    × (m .state .moves ≡ counts .moves)
+    × (m .state .won ≡ counts .won)
+    × (m .state .lost ≡ counts .lost)
+
+-- ---- the rows
+
+-- how many rows the parties hold unpublished
+abbrev pub rowsHeld : Machine → ℕ
+rowsHeld m = sum (λ party. oneIf (partyOf m party .unpublished)) (m .state .count)
+
+-- no row is lost: each is an end, went into the list by an add swap or a mark swap, or is still held
+abbrev pub Rows : Type 0
+Rows = (t : Table) (parties : ℕ) (history : History) → Grows t parties history →
+    let m = grown t parties history in
+    let counts = countsOf (start t parties) history in
+    m .state .taken ≡ 4 + counts .adds + counts .marks + rowsHeld m
