@@ -1,1 +1,4 @@
 -- The proofs.
+pub mod Party
+pub mod View
+pub mod Does
