@@ -2,3 +2,5 @@
 pub mod Party
 pub mod View
 pub mod Does
+pub mod Machine
+pub mod Steps

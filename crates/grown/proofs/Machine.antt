@@ -1,0 +1,35 @@
+-- The machine as a view, and what a deed does to the live ranks.
+-- Assumes nothing.
+use Prim.Native.Nat.{ℕ, _+_}
+use mathlib.Core.Bool.{Bool}
+use Rattle.rows.specs.Table.{nextAt, backAt}
+use Rattle.rows.specs.Order.{rankAt}
+use Rattle.bare.specs.Bare.{Machine, partyOf}
+use Rattle.world.specs.World.{World}
+use Rattle.world.specs.Live.{Change, still, gain, lose}
+use Rattle.grown.specs.Deeds.{Deed, called, read, added, marked, cleaned, lost}
+use Rattle.grown.proofs.View.{View, world}
+
+-- the orphans are said apart: a list grown from set-up has none
+abbrev pub viewOf : (ℕ → Bool) → Machine → View
+viewOf orphan m =
+    record {
+      rank = λ row. rankAt (m .table) row;
+      next = λ row. nextAt (m .table) row;
+      back = λ row. backAt (m .table) row;
+      taken = m .state .taken;
+      party = λ j. partyOf m j;
+      orphan = orphan;
+    }
+
+abbrev pub worldOf : (ℕ → Bool) → Machine → World
+worldOf orphan m = world (viewOf orphan m)
+
+-- own is the splice of a mark swap
+abbrev pub changeOf : Deed → (own : ℕ) → Change
+changeOf called own = still
+changeOf read own = still
+changeOf (added key) own = gain (3 + key)
+changeOf (marked key) own = lose (3 + key) own
+changeOf cleaned own = still
+changeOf lost own = still
