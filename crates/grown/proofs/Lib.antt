@@ -4,3 +4,4 @@ pub mod View
 pub mod Does
 pub mod Machine
 pub mod Steps
+pub mod Books

@@ -12,7 +12,7 @@ use Rattle.list.specs.Engine.{liveKeys}
 use Rattle.list.specs.Run.{Event, calls, moves, turnOf}
 use Rattle.world.specs.Keys.{extra}
 use Rattle.grown.specs.History.{History}
-use Rattle.grown.specs.Counts.{Counts, tally, plus}
+use Rattle.grown.specs.Counts.{Counts, tally, withKeys, plus}
 
 -- ---- what an event is
 
@@ -43,20 +43,20 @@ deedOf m (moves party) = deedAt (partyOf m party .place) (m .table) (partyOf m p
 
 -- ---- what it adds to the counts
 
--- what an event adds: calls, moves, won, lost, adds, marks
-abbrev pub deedCounts : Deed → (ins outs : ℕ) → Counts
-deedCounts called ins outs = tally 1 0 0 0 0 0 ins outs
-deedCounts read ins outs = tally 0 1 0 0 0 0 ins outs
-deedCounts (added key) ins outs = tally 0 1 1 0 1 0 ins outs
-deedCounts (marked key) ins outs = tally 0 1 1 0 0 1 ins outs
-deedCounts cleaned ins outs = tally 0 1 1 0 0 0 ins outs
-deedCounts lost ins outs = tally 0 1 0 1 0 0 ins outs
+-- calls, moves, won, lost, add swaps won, mark swaps won
+abbrev pub deedCounts : Deed → Counts
+deedCounts called = tally 1 0 0 0 0 0
+deedCounts read = tally 0 1 0 0 0 0
+deedCounts (added key) = tally 0 1 1 0 1 0
+deedCounts (marked key) = tally 0 1 1 0 0 1
+deedCounts cleaned = tally 0 1 1 0 0 0
+deedCounts lost = tally 0 1 0 1 0 0
 
 -- a key is brought in if it is live after the event and was not before, and taken out if it was and is not any more
 abbrev pub eventCounts : Machine → Event → Counts
 eventCounts m event =
-    deedCounts (deedOf m event) (extra (liveKeys (turnOf m event .memory)) (liveKeys m)) (extra (liveKeys m) (liveKeys (turnOf m event .memory)))
+    withKeys (extra (liveKeys (turnOf m event .memory)) (liveKeys m)) (extra (liveKeys m) (liveKeys (turnOf m event .memory))) (deedCounts (deedOf m event))
 
 unfoldable pub countsOf : Machine → History → Counts
-countsOf m [] = tally 0 0 0 0 0 0 0 0
+countsOf m [] = tally 0 0 0 0 0 0
 countsOf m (first ∷ rest) = plus (eventCounts m first) (countsOf (turnOf m first .memory) rest)
