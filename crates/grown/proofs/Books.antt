@@ -31,7 +31,7 @@ use Rattle.world.proofs.Walk.{at-c}
 use Rattle.grown.specs.Deeds.{Deed, called, read, added, marked, cleaned, lost, deedCounts}
 use Rattle.grown.proofs.Party.{At}
 use Rattle.grown.proofs.View.{Inv}
-use Rattle.grown.proofs.Machine.{viewOf, worldOf}
+use Rattle.grown.proofs.Machine.{viewOf, worldOf, insOf, outsOf}
 use Rattle.grown.proofs.Does.{
   Does,
   passes,
@@ -133,23 +133,6 @@ accessOf (added key) = Won
 accessOf (marked key) = Won
 accessOf cleaned = Won
 accessOf lost = Lost
-
--- keys that a deed brings in, and takes out
-abbrev pub insOf : Deed → ℕ
-insOf called = 0
-insOf read = 0
-insOf (added key) = 1
-insOf (marked key) = 0
-insOf cleaned = 0
-insOf lost = 0
-
-abbrev pub outsOf : Deed → ℕ
-outsOf called = 0
-outsOf read = 0
-outsOf (added key) = 0
-outsOf (marked key) = 1
-outsOf cleaned = 0
-outsOf lost = 0
 
 pub record Booked (w : World) (t : Table) (q : Party) (l : Place) (moved : Moved) (deed : Deed) : Type 0 where
   pub access : moved .access ≡ accessOf deed

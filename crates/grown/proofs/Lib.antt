@@ -5,3 +5,6 @@ pub mod Does
 pub mod Machine
 pub mod Steps
 pub mod Books
+pub mod Turn
+pub mod Listing
+pub mod Changes

@@ -1,4 +1,4 @@
--- The machine as a view, and what a deed does to the live ranks.
+-- The machine as a view, and what a deed does to the live ranks and keys.
 -- Assumes nothing.
 use Prim.Native.Nat.{ℕ, _+_}
 use mathlib.Core.Bool.{Bool}
@@ -33,3 +33,20 @@ changeOf (added key) own = gain (3 + key)
 changeOf (marked key) own = lose (3 + key) own
 changeOf cleaned own = still
 changeOf lost own = still
+
+-- keys that a deed brings in, and takes out
+abbrev pub insOf : Deed → ℕ
+insOf called = 0
+insOf read = 0
+insOf (added key) = 1
+insOf (marked key) = 0
+insOf cleaned = 0
+insOf lost = 0
+
+abbrev pub outsOf : Deed → ℕ
+outsOf called = 0
+outsOf read = 0
+outsOf (added key) = 0
+outsOf (marked key) = 1
+outsOf cleaned = 0
+outsOf lost = 0
