@@ -1,5 +1,6 @@
 -- The books, move by move: the swaps that a party is bound to lose, the CLEAN that a marked REMOVE may still win, the row that it holds.
 -- Assumes nothing.
+use Prim.{Unit, tt}
 use Prim.Native.Nat.{ℕ, _+_, _-_, _*_, _≤_, _<_, min}
 use mathlib.Core.Path.{_≡_, refl, sym, ap, _∙_}
 use mathlib.Core.Logic.{_⊎_, inl, inr, ⊎-elim, _≢_}
@@ -8,7 +9,7 @@ use native.Mathlib.Nat.{le-refl}
 use native.Mathlib.Omega.{arith}
 use lib.Seq.{getD-set-other}
 use Rattle.rows.specs.declared.Write.{Write}
-use Rattle.rows.specs.declared.Write.the-variants.{Keep, Link, Splice}
+use Rattle.rows.specs.declared.Write.the-variants.{Keep, Link, Splice, Item}
 use Rattle.rows.specs.Table.{Table, nextAt}
 use Rattle.rows.specs.Writes.{written}
 use Rattle.party.specs.declared.Call.the-variants.{Add, Remove, Contains}
@@ -134,8 +135,16 @@ accessOf (marked key) = Won
 accessOf cleaned = Won
 accessOf lost = Lost
 
+-- a move makes no item: only a call does
+abbrev pub NoItem : Write → Type 0
+NoItem Keep = Unit {0}
+NoItem (Link row to) = Unit {0}
+NoItem (Splice row to from) = Unit {0}
+NoItem (Item row key) = ⊥
+
 pub record Booked (w : World) (t : Table) (q : Party) (l : Place) (moved : Moved) (deed : Deed) : Type 0 where
   pub access : moved .access ≡ accessOf deed
+  pub plain : NoItem (moved .write)
   -- a lost swap was bound to be lost
   pub mine : stale (λ row. nextAt (written (moved .write) t) row) (moved .party) (moved .party .place) + deedCounts deed .lost ≤ stale (λ row. nextAt t row) q l
   -- a won swap brings a key in, takes one out and may clean up later, or cleans up
@@ -160,21 +169,21 @@ module _ (orphan : ℕ → Bool) (m : Machine) (v : Inv (viewOf orphan m)) (i : 
   Books l moved deed = Booked w t q l moved deed
 
   -- nothing written that others can see, nothing published
-  goes : (l : Place) (q′ : Party) (write : Write) → ((y : ℕ) → w .Pub y → nextAt (written write t) y ≡ nextAt t y)
+  goes : (l : Place) (q′ : Party) (write : Write) → NoItem write → ((y : ℕ) → w .Pub y → nextAt (written write t) y ≡ nextAt t y)
       → stale (λ row. nextAt (written write t) row) q′ (q′ .place) ≤ stale (λ row. nextAt t row) q l → owes (q′ .place) (q′ .unpublished) ≤ owes l (q .unpublished) → q′ .unpublished ≡ q .unpublished
       → Books l (reads q′ write) read
-  goes l q′ write a b c e = record { access = refl; mine = omega arith; pays = omega arith; held = rw e (omega arith); cell = 0; but = λ y k. inl (a y k) }
+  goes l q′ write plain a b c e = record { access = refl; plain = plain; mine = omega arith; pays = omega arith; held = rw e (omega arith); cell = 0; but = λ y k. inl (a y k) }
 
   walks : (l : Place) (q′ : Party) → stale (λ row. nextAt t row) q′ (q′ .place) ≤ stale (λ row. nextAt t row) q l
       → owes (q′ .place) (q′ .unpublished) ≤ owes l (q .unpublished) → q′ .unpublished ≡ q .unpublished → Books l (reads q′ Keep) read
-  walks l q′ b c e = goes l q′ Keep (λ y k. refl) b c e
+  walks l q′ b c e = goes l q′ Keep tt (λ y k. refl) b c e
 
   says : (l : Place) (said : Said) → Books l (answers q said) read
-  says l said = record { access = refl; mine = omega arith; pays = omega arith; held = omega arith; cell = 0; but = λ y k. inl refl }
+  says l said = record { access = refl; plain = tt; mine = omega arith; pays = omega arith; held = omega arith; cell = 0; but = λ y k. inl refl }
 
   fails : (l : Place) (q′ : Party) → stale (λ row. nextAt t row) q′ (q′ .place) < stale (λ row. nextAt t row) q l
       → owes (q′ .place) (q′ .unpublished) ≤ owes l (q .unpublished) → q′ .unpublished ≡ q .unpublished → Books l (loses q′) lost
-  fails l q′ b c e = record { access = refl; mine = omega arith; pays = omega arith; held = rw e (omega arith); cell = 0; but = λ y k. inl refl }
+  fails l q′ b c e = record { access = refl; plain = tt; mine = omega arith; pays = omega arith; held = rw e (omega arith); cell = 0; but = λ y k. inl refl }
 
   -- a won swap writes the next of one row
   made : (l : Place) (q′ : Party) (said : Said) (x u : ℕ) (deed : Deed) → accessOf deed ≡ Won → deedCounts deed .lost ≡ 0 → deedCounts deed .won ≡ 1
@@ -183,6 +192,7 @@ module _ (orphan : ℕ → Bool) (m : Machine) (v : Inv (viewOf orphan m)) (i : 
       → oneIf (q′ .unpublished) + (deedCounts deed .adds + deedCounts deed .marks) ≡ oneIf (q .unpublished) → Books l (wins q′ said x u) deed
   made l q′ said x u deed a no-loss win b c e = record {
     access = sym a;
+    plain = tt;
     mine = omega arith;
     pays = omega arith;
     held = e;
@@ -196,14 +206,14 @@ module _ (orphan : ℕ → Bool) (m : Machine) (v : Inv (viewOf orphan m)) (i : 
 
   prepares : (l : Place) (k : ℕ) → Walking w (3 + k) (q .p) (q .n) (q .c) → q .unpublished ≡ true → miss (w .next (q .p)) (q .n) ≤ stale (w .next) q l →
       Books l (reads (adding q Add k (q .p) (q .n)) (Link (q .own) (q .c))) read
-  prepares l k W f b = goes l (adding q Add k (q .p) (q .n)) (Link (q .own) (q .c)) (λ y n. own-off (q .c) y f n)
+  prepares l k W f b = goes l (adding q Add k (q .p) (q .n)) (Link (q .own) (q .c)) tt (λ y n. own-off (q .c) y f n)
       (rw (own-off (q .c) (q .p) f (W .behind .row .known)) b) (omega arith) refl
 
   -- a party that comes to MARK has just read s
-  readies : (l : Place) (k : ℕ) (write : Write) → Walking w (3 + k) (q .p) (q .n) (q .c) → ((y : ℕ) → w .Pub y → nextAt (written write t) y ≡ nextAt t y) →
+  readies : (l : Place) (k : ℕ) (write : Write) → NoItem write → Walking w (3 + k) (q .p) (q .n) (q .c) → ((y : ℕ) → w .Pub y → nextAt (written write t) y ≡ nextAt t y) →
       miss (w .next (q .p)) (q .n) ≤ stale (w .next) q l → oneIf (not (q .unpublished)) ≤ owes l (q .unpublished) →
       Books l (reads (marking q Remove k (q .p) (q .n) (q .c) (nextAt t (q .c))) write) read
-  readies l k write W e b c = goes l (marking q Remove k (q .p) (q .n) (q .c) (nextAt t (q .c))) write e
+  readies l k write plain W e b c = goes l (marking q Remove k (q .p) (q .n) (q .c) (nextAt t (q .c))) write plain e
       (rw (e (q .p) (W .behind .row .known), e (q .c) (at-c (v .good) W .0 .known), miss-same (w .next (q .c)) (w .next (q .c)) refl) (omega arith)) c refl
 
   -- a swap that is lost was bound to be
@@ -222,7 +232,7 @@ module _ (orphan : ℕ → Bool) (m : Machine) (v : Inv (viewOf orphan m)) (i : 
   does-booked (add-ready b n) a = prepares _ _ (a .0) (a .1 .hidden) (le-refl _)
   does-booked (cut-other f b n) a = says _ _
   does-booked (cut-late f b k) a = says _ _
-  does-booked (cut-ready {k} f b o) a = readies (Walk Remove k) k _ (a .0) (λ y n. own-off _ y f n) (le-refl _) (le-refl _)
+  does-booked (cut-ready {k} f b o) a = readies (Walk Remove k) k _ tt (a .0) (λ y n. own-off _ y f n) (le-refl _) (le-refl _)
   does-booked (cut-again f b d) a = walks _ _ (le-refl _) (le-refl _) refl
   does-booked (cut-done f b n) a = says _ _
   does-booked (skips k) a = walks _ _ (le-refl _) (le-refl _) refl
@@ -233,7 +243,7 @@ module _ (orphan : ℕ → Bool) (m : Machine) (v : Inv (viewOf orphan m)) (i : 
       (rw (getD-set-other (t .next) (q .c) (q .p) (q .own) 0 (λ d. omega (arith, ap (w .rank) d, a .0 .behind .low, a .1))) (omega arith)) (omega arith) (rw (a .2 .hidden))
   does-booked (mark-loses {k} n) a = fails (Mark Remove k) (rereading q Remove k (q .p) (q .n) (q .c)) (omega (arith, bound (w .next (q .c)) (q .s) n)) (le-refl _) refl
   does-booked (rereads-late k) a = says _ _
-  does-booked (rereads {k} o) a = readies (Reread Remove k) k _ (a .0) (λ y n. own-off _ y (a .2 .hidden) n) (le-refl _) (le-refl _)
+  does-booked (rereads {k} o) a = readies (Reread Remove k) k _ tt (a .0) (λ y n. own-off _ y (a .2 .hidden) n) (le-refl _) (le-refl _)
   does-booked (clean-wins {k} d) a = made (Clean Remove k) (idling q) _ _ _ cleaned refl refl refl (omega arith) (rw (a .2 .shown) (omega arith)) (omega arith)
   does-booked (clean-loses {k} n) a = fails (Clean Remove k) (backing q Remove k (q .p)) (omega (arith, bound (w .next (q .p)) (q .n) n)) (le-refl _) refl
   does-booked (backs {call} {k} M) a = walks (Back call k) _ (omega arith) (le-refl _) refl

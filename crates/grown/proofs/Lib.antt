@@ -6,5 +6,6 @@ pub mod Machine
 pub mod Steps
 pub mod Books
 pub mod Turn
+pub mod Events
 pub mod Listing
 pub mod Changes

@@ -3,14 +3,19 @@
 use Prim.{tt}
 use Prim.Native.Nat.{ℕ, _+_, _*_, _≤_, _<_}
 use mathlib.Core.Path.{_≡_, refl, sym, _∙_}
-use mathlib.Core.Logic.{_⊎_, inl, inr, _≢_}
+use mathlib.Core.Logic.{_⊎_, inl, inr, _≢_, dite}
 use mathlib.Core.List.{List, []}
 use mathlib.Core.Bool.{Bool, true, false, true≢false}
+use native.Mathlib.Decide.{decLt}
 use native.Mathlib.Omega.{arith}
 use lib.ListN.{length, getD, set, length-set}
-use lib.Seq.{getD-set-same, getD-set-other}
+use lib.Seq.{set-out, getD-set-same, getD-set-other}
 use borrow.Author.Tests.{lt-ltb}
-use Rattle.rows.specs.Table.{Table, nextAt, withRow}
+use Rattle.columns.specs.Column.{at, put}
+use Rattle.rows.specs.declared.Write.{Write}
+use Rattle.rows.specs.declared.Write.the-variants.{Keep, Link, Splice}
+use Rattle.rows.specs.Table.{Table, keyAt, nextAt, withRow}
+use Rattle.rows.specs.Writes.{written}
 use Rattle.rows.specs.Order.{rank, rankAt}
 use Rattle.party.specs.declared.Call.{Call}
 use Rattle.party.specs.declared.Call.the-variants.{Add, Remove, Contains}
@@ -29,6 +34,7 @@ use Rattle.chain.specs.Chain.{oneIf}
 use Rattle.world.specs.World.{World}
 use Rattle.world.specs.Walk.{Walking}
 use Rattle.world.specs.Live.{still}
+use Rattle.world.proofs.Swap.{by-row}
 use Rattle.world.proofs.Walk.{walking-ext, walk-start}
 use Rattle.grown.specs.Deeds.{Deed, called, read, added, marked, cleaned, lost, deedAt, deedCounts}
 use Rattle.grown.proofs.Party.{At}
@@ -36,7 +42,7 @@ use Rattle.grown.proofs.View.{Inv, Steady, inv-quiet, key-of}
 use Rattle.grown.proofs.Machine.{viewOf, worldOf, changeOf, insOf, outsOf}
 use Rattle.grown.proofs.Does.{does}
 use Rattle.grown.proofs.Steps.{row-off, quiet, read as reads-only, does-steady}
-use Rattle.grown.proofs.Books.{miss-same, stale, owes, accessOf, Booked, does-booked}
+use Rattle.grown.proofs.Books.{miss-same, stale, owes, accessOf, NoItem, Booked, does-booked}
 
 -- ---- turns
 
@@ -68,6 +74,10 @@ owesOf m j = owes (partyOf m j .place) (partyOf m j .unpublished)
 abbrev pub heldOf : Machine → ℕ → ℕ
 heldOf m j = oneIf (partyOf m j .unpublished)
 
+-- the keys of a table are numbers of 32 bits
+abbrev pub KeysSmall : Table → Type 0
+KeysSmall t = (row : ℕ) → keyAt t row < 4294967296
+
 pub record Turned (orphan : ℕ → Bool) (m : Machine) (i : ℕ) (m′ : Machine) (deed : Deed) : Type 0 where
   pub steady : Steady (viewOf orphan m) (viewOf orphan m′) (changeOf deed (partyOf m i .own))
   pub others : (j : ℕ) → j ≢ i → partyOf m′ j ≡ partyOf m j
@@ -76,11 +86,24 @@ pub record Turned (orphan : ℕ → Bool) (m : Machine) (i : ℕ) (m′ : Machin
   pub but : (y : ℕ) → worldOf orphan m .Pub y → (nextAt (m′ .table) y ≡ nextAt (m .table) y) ⊎ ((y ≡ cell) × (deedCounts deed .won ≡ 1))
   pub pays : owesOf m′ i + deedCounts deed .won ≤ owesOf m i + (insOf deed + 2 * outsOf deed)
   pub rows : m′ .state .taken + heldOf m i ≡ m .state .taken + heldOf m′ i + (deedCounts deed .adds + deedCounts deed .marks)
+  pub small : KeysSmall (m .table) → KeysSmall (m′ .table)
   pub sixteen : length (m′ .state .parties) ≡ length (m .state .parties)
   pub count : m′ .state .count ≡ m .state .count
   pub made : m′ .state .moves ≡ m .state .moves + deedCounts deed .moves
   pub won : m′ .state .won ≡ m .state .won + deedCounts deed .won
   pub lost : m′ .state .lost ≡ m .state .lost + deedCounts deed .lost
+
+-- ---- the keys
+
+put-small : (column : List ℕ) (row key : ℕ) → key < 4294967296 → ((x : ℕ) → at column x < 4294967296) → (x : ℕ) → at (put column row key) x < 4294967296
+put-small column row key fits old x = dite (decLt row (length column))
+    (λ (l : row < length column). by-row x row (λ e. rw (e, getD-set-same column row key 0 l) fits) (λ n. rw (getD-set-other column row x key 0 n) (old x)))
+    (λ (l : row < length column → ⊥). rw (set-out column row key (omega arith)) (old x))
+
+plain-small : (write : Write) (t : Table) → NoItem write → KeysSmall t → KeysSmall (written write t)
+plain-small Keep t plain old = old
+plain-small (Link row to) t plain old = old
+plain-small (Splice row to from) t plain old = put-small (t .key) row 0 (omega arith) old
 
 -- ---- the tallies
 
@@ -194,9 +217,9 @@ module _ (orphan : ℕ → Bool) (m : Machine) (v : Inv (viewOf orphan m)) (z : 
   call-look key fits = reads-only orphan m v z i h (looking (partyOf m i) Contains key 1) (λ x d. d) (λ x d. d) (key-of v key fits, v .good .one, omega (arith, v .good .order), tt)
 
   -- a call that makes row x, which is not published, an item of party i
-  called-with : (x taken : ℕ) (call : Call) (key : ℕ) → (w .Pub x → ⊥) → partyOf m i .place ≡ Idle → taken + heldOf m i ≡ T + 1 →
+  called-with : (x taken : ℕ) (call : Call) (key : ℕ) → key < 4294967296 → (w .Pub x → ⊥) → partyOf m i .place ≡ Idle → taken + heldOf m i ≡ T + 1 →
       Steady (viewOf orphan m) (viewOf orphan (begun m i x taken call key)) still → Turned orphan m i (begun m i x taken call key) called
-  called-with x taken call key new idle rows steady = record {
+  called-with x taken call key fits new idle rows steady = record {
     steady = steady;
     others = λ j n. off (starting call key x) j n;
     mine = rw (now (starting call key x)) (omega (arith, miss-same (nextAt (begun m i x taken call key .table) 0) 1 (kept 0 (v .good .head .known) ∙ next-zero)));
@@ -204,6 +227,7 @@ module _ (orphan : ℕ → Bool) (m : Machine) (v : Inv (viewOf orphan m)) (z : 
     but = λ y k. inl (kept y k);
     pays = rw (now (starting call key x), start-owes call key) (omega arith);
     rows = rw (now (starting call key x)) (omega arith);
+    small = λ old. put-small (m .table .key) x key fits old;
     sixteen = length-set (m .state .parties) i (starting call key x);
     count = refl;
     made = omega arith;
@@ -223,6 +247,7 @@ module _ (orphan : ℕ → Bool) (m : Machine) (v : Inv (viewOf orphan m)) (z : 
     but = λ y k. inl refl;
     pays = rw (now q′) (omega arith);
     rows = rw (now q′) (omega arith);
+    small = λ old. old;
     sixteen = length-set (m .state .parties) i q′;
     count = refl;
     made = omega arith;
@@ -246,6 +271,7 @@ module _ (orphan : ℕ → Bool) (m : Machine) (v : Inv (viewOf orphan m)) (z : 
         but = books .but;
         pays = rw (parties, now (moved .party)) (books .pays);
         rows = rw (parties, now (moved .party), same-taken (moved .access) st) (omega (arith, books .held));
+        small = plain-small (moved .write) (m .table) (books .plain);
         sixteen = rw parties (length-set (m .state .parties) i (moved .party));
         count = same-count (moved .access) st;
         made = rw (books .access) (deed-moves st a b c deed);
@@ -259,6 +285,6 @@ module _ (orphan : ℕ → Bool) (m : Machine) (v : Inv (viewOf orphan m)) (z : 
       let it = does (m .table) (partyOf m i) w (partyOf m i .place) busy (v .holds i) in
       moved-on _ _ a b c (does-booked orphan m v i it (v .holds i)) (does-steady orphan m v z i h it (v .holds i))
   turned a b c (spares call key is fits idle f) =
-      called-with (partyOf m i .own) T call key (λ k. k .1 i (f, refl)) idle (rw f (omega arith)) (call-spare call key is fits f)
-  turned a b c (takes call key is fits idle f room) = called-with T (T + 1) call key (λ k. omega (arith, k .0)) idle (rw f (omega arith)) (call-take call key is fits f room)
+      called-with (partyOf m i .own) T call key fits (λ k. k .1 i (f, refl)) idle (rw f (omega arith)) (call-spare call key is fits f)
+  turned a b c (takes call key is fits idle f room) = called-with T (T + 1) call key fits (λ k. omega (arith, k .0)) idle (rw f (omega arith)) (call-take call key is fits f room)
   turned a b c (asks key fits idle) = asked key fits idle
