@@ -9,3 +9,4 @@ pub mod Turn
 pub mod Events
 pub mod Listing
 pub mod Changes
+pub mod Grown

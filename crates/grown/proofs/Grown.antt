@@ -1,0 +1,142 @@
+-- What holds along every accepted history from a start: the invariant, and the books against the counts of the history.
+-- Assumes nothing.
+use Prim.Native.Nat.{ℕ, _+_, _*_, _≤_, _<_}
+use mathlib.Core.Path.{_≡_, refl, sym, subst, _∙_}
+use mathlib.Core.List.{List, [], _∷_}
+use mathlib.Core.Bool.{Bool, true, false}
+use native.Mathlib.Nat.{add-zero, add-assoc}
+use native.Mathlib.Omega.{arith}
+use lib.ListN.{length}
+use Rattle.columns.proofs.Every.{and-left, and-right}
+use Rattle.rows.specs.Table.{Table, nextAt}
+use Rattle.party.specs.declared.Place.the-variants.{Idle}
+use Rattle.bare.specs.Bare.{Machine, partyOf}
+use Rattle.form.specs.Form.{goodForm}
+use Rattle.form.proofs.Good.{Good, good}
+use Rattle.list.specs.Engine.{badTable, liveKeys}
+use Rattle.list.specs.Run.{Event, turnOf, run}
+use Rattle.world.specs.Sum.{sum}
+use Rattle.world.specs.Keys.{extra}
+use Rattle.world.proofs.Sum.{sum-zero, sum-one, sum-step}
+use Rattle.grown.specs.History.{History, accepts, acceptsAll, Accepted}
+use Rattle.grown.specs.Counts.{Counts, tally, withKeys, plus}
+use Rattle.grown.specs.Deeds.{deedOf, deedCounts, eventCounts, countsOf}
+use Rattle.grown.proofs.View.{Inv}
+use Rattle.grown.proofs.Machine.{viewOf, worldOf, insOf, outsOf}
+use Rattle.grown.proofs.Books.{others-stale}
+use Rattle.grown.proofs.Turn.{staleOf, owesOf, heldOf, KeysSmall, Turned, turned}
+use Rattle.grown.proofs.Events.{whose, Happens, happens}
+use Rattle.grown.proofs.Changes.{ins-outs}
+
+-- ---- what holds of a machine whatever came before
+
+pub record Sound (orphan : ℕ → Bool) (parties : ℕ) (m : Machine) : Type 0 where
+  pub inv : Inv (viewOf orphan m)
+  pub form : goodForm m ≡ true
+  pub fits : badTable (m .table) ≡ false
+  pub small : KeysSmall (m .table)
+  pub sixteen : length (m .state .parties) ≡ 16
+  pub count : m .state .count ≡ parties
+
+-- a list at rest that nobody has moved in yet: set-up is one, and an imported list can be another
+pub record Start (orphan : ℕ → Bool) (parties : ℕ) (m : Machine) : Type 0 where
+  pub sound : Sound orphan parties m
+  pub idles : (j : ℕ) → partyOf m j .place ≡ Idle
+  pub none : (j : ℕ) → partyOf m j .unpublished ≡ false
+  pub moves : m .state .moves ≡ 0
+  pub won : m .state .won ≡ 0
+  pub lost : m .state .lost ≡ 0
+
+-- the books against the counts since a start at which so many rows were taken
+pub record Kept (parties taken : ℕ) (m : Machine) (c : Counts) : Type 0 where
+  -- each won swap makes at most one swap of each other party stale
+  pub bound : c .lost + sum (staleOf m) parties + c .won ≤ parties * c .won
+  pub paid : c .won + sum (owesOf m) parties ≤ c .ins + 2 * c .outs
+  pub rows : m .state .taken ≡ taken + c .adds + c .marks + sum (heldOf m) parties
+  pub moves : m .state .moves ≡ c .moves
+  pub won : m .state .won ≡ c .won
+  pub lost : m .state .lost ≡ c .lost
+
+-- ---- one event
+
+module _ (orphan : ℕ → Bool) (parties : ℕ) (m : Machine) (event : Event) (s : Sound orphan parties m) (e : accepts m event ≡ true) where
+  abbrev m′ : Machine
+  m′ = turnOf m event .memory
+
+  h : Happens m event
+  h = happens m event e
+
+  form : Good m
+  form = good m (s .form)
+
+  inside : whose event < length (m .state .parties)
+  inside = omega (arith, h .known, form .few, s .sixteen)
+
+  pub turn-of : Turned orphan m (whose event) m′ (deedOf m event)
+  turn-of = turned orphan m (s .inv) (form .rows) (whose event) inside (omega (arith, form)) (omega (arith, form)) (omega (arith, form)) (h .turn)
+
+  pub sound-turn : Sound orphan parties m′
+  sound-turn = let t = turn-of in record {
+    inv = t .steady .inv;
+    form = h .kept;
+    fits = h .still-fits;
+    small = t .small (s .small);
+    sixteen = t .sixteen ∙ s .sixteen;
+    count = t .count ∙ s .count;
+  }
+
+  pub keys-turn : (extra (liveKeys m′) (liveKeys m) ≡ insOf (deedOf m event)) × (extra (liveKeys m) (liveKeys m′) ≡ outsOf (deedOf m event))
+  keys-turn = let t = turn-of in ins-outs orphan m m′ (s .inv) (t .steady .inv) (deedOf m event) (partyOf m (whose event) .own) (t .steady .live)
+
+  pub kept-turn : (taken : ℕ) (c : Counts) → Kept parties taken m c → Kept parties taken m′ (plus c (eventCounts m event))
+  kept-turn taken c k =
+      let t = turn-of in
+      let i = whose event in
+      let deed = deedOf m event in
+      let known : i < parties = omega (arith, h .known, s .count) in
+      let stales = sum-step (staleOf m) (staleOf m′) (deedCounts deed .won) (deedCounts deed .lost) 0 i
+      (λ j n. rw (t .others j n) (others-stale (worldOf orphan m) (s .inv .good) (λ row. nextAt (m′ .table) row) (t .cell) (deedCounts deed .won) (t .but) (partyOf m j) (partyOf m j .place) (s .inv .holds j)))
+      (omega (arith, t .mine)) parties known in
+      let owings = sum-step (owesOf m) (owesOf m′) 0 (deedCounts deed .won) (insOf deed + 2 * outsOf deed) i
+      (λ j n. rw (t .others j n) (omega arith)) (t .pays) parties known in
+      let holdings = sum-one (heldOf m) (heldOf m′) i parties known (λ j n. rw (t .others j n)) in
+      record {
+        bound = omega (arith, k .bound, stales);
+        paid = omega (arith, k .paid, owings, keys-turn);
+        rows = omega (arith, k .rows, t .rows, holdings);
+        moves = omega (arith, k .moves, t .made);
+        won = omega (arith, k .won, t .won);
+        lost = omega (arith, k .lost, t .lost);
+      }
+
+-- ---- a history
+
+plus-none : (c : Counts) → plus c (tally 0 0 0 0 0 0) ≡ c
+plus-none c = simp add-zero refl
+
+plus-plus : (a b c : Counts) → plus (plus a b) c ≡ plus a (plus b c)
+plus-plus a b c = simp add-assoc refl
+
+-- what every accepted event keeps holds after every accepted history
+pub along : (P : Machine → Type 0) → ((m : Machine) (event : Event) → P m → accepts m event ≡ true → P (turnOf m event .memory)) →
+    (history : History) (m : Machine) → P m → Accepted m history → P (run m history)
+unfolding run acceptsAll
+along P keeps [] m start ok = start
+along P keeps (first ∷ rest) m start ok =
+    let this : accepts m first ≡ true = and-left (accepts m first) (acceptsAll (turnOf m first .memory) rest) ok in
+    along P keeps rest (turnOf m first .memory) (keeps m first start this) (and-right (accepts m first) (acceptsAll (turnOf m first .memory) rest) ok)
+
+module _ (orphan : ℕ → Bool) (parties taken : ℕ) where
+  pub sound-along : (history : History) (m : Machine) → Sound orphan parties m → Accepted m history → Sound orphan parties (run m history)
+  sound-along history m s ok = along (Sound orphan parties) (λ m event s e. sound-turn orphan parties m event s e) history m s ok
+
+  pub kept-along : (history : History) (m : Machine) (c : Counts) → Sound orphan parties m → Kept parties taken m c → Accepted m history →
+      Kept parties taken (run m history) (plus c (countsOf m history))
+  unfolding run acceptsAll countsOf
+  kept-along [] m c s k ok = rw (plus-none c) k
+  kept-along (first ∷ rest) m c s k ok =
+      let this : accepts m first ≡ true = and-left (accepts m first) (acceptsAll (turnOf m first .memory) rest) ok in
+      let m′ = turnOf m first .memory in
+      rw (plus-plus c (eventCounts m first) (countsOf m′ rest)) at
+      (kept-along rest m′ (plus c (eventCounts m first)) (sound-turn orphan parties m first s this) (kept-turn orphan parties m first s this taken c k)
+      (and-right (accepts m first) (acceptsAll m′ rest) ok))
