@@ -140,3 +140,11 @@ module _ (orphan : ℕ → Bool) (parties taken : ℕ) where
       rw (plus-plus c (eventCounts m first) (countsOf m′ rest)) at
       (kept-along rest m′ (plus c (eventCounts m first)) (sound-turn orphan parties m first s this) (kept-turn orphan parties m first s this taken c k)
       (and-right (accepts m first) (acceptsAll m′ rest) ok))
+
+  -- at a start nothing is stale, owed or held
+  pub start-kept : (m : Machine) → Start orphan parties m → Kept parties (m .state .taken) m (tally 0 0 0 0 0 0)
+  start-kept m s =
+      let stales : sum (staleOf m) parties ≡ 0 = sum-zero (staleOf m) parties (λ j n. rw (s .idles j)) in
+      let owings : sum (owesOf m) parties ≡ 0 = sum-zero (owesOf m) parties (λ j n. rw (s .idles j)) in
+      let holdings : sum (heldOf m) parties ≡ 0 = sum-zero (heldOf m) parties (λ j n. rw (s .none j)) in
+      record { bound = omega arith; paid = omega arith; rows = omega arith; moves = s .moves; won = s .won; lost = s .lost }

@@ -10,3 +10,5 @@ pub mod Events
 pub mod Listing
 pub mod Changes
 pub mod Grown
+pub mod SetUp
+pub mod Demands

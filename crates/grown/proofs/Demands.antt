@@ -1,0 +1,72 @@
+-- The proofs of the demands, each from what holds along a history.
+-- Assumes nothing.
+use Prim.Native.Nat.{ℕ, zero, suc, _+_, _-_, _*_, _≤_, _<_}
+use mathlib.Core.Path.{_≡_, refl, ap}
+use mathlib.Core.Bool.{Bool}
+use native.Mathlib.Nat.{zero-add}
+use native.Mathlib.Omega.{arith}
+use Rattle.rows.specs.Table.{Table}
+use Rattle.bare.specs.Bare.{Machine, partyOf}
+use Rattle.form.proofs.Good.{Good, good}
+use Rattle.list.specs.Run.{Event}
+use Rattle.grown.specs.History.{History, start, Grows, grown}
+use Rattle.grown.specs.Counts.{Counts, plus, tally}
+use Rattle.grown.specs.Deeds.{deedOf, countsOf}
+use Rattle.grown.specs.Demands.{Kept, Listed, Demand2, Demand3, Rows}
+use Rattle.grown.proofs.Grown.{Sound, Start, Kept as Books, turn-of, sound-turn, sound-along, kept-along, start-kept}
+use Rattle.grown.proofs.SetUp.{none, set-up, start-is}
+use Rattle.grown.proofs.Listing.{listing-is, keys-rise, keys-live, live-keys, live-row, row-live}
+use Rattle.grown.proofs.Changes.{changes}
+use Rattle.grown.proofs.Events.{whose}
+
+none-plus : (c : Counts) → plus (tally 0 0 0 0 0 0) c ≡ c
+none-plus c = simp zero-add refl
+
+module _ (t : Table) (parties : ℕ) (history : History) (g : Grows t parties history) where
+  begins : Start none parties (start t parties)
+  begins = set-up t parties (g .set)
+
+  sound : Sound none parties (grown t parties history)
+  sound = sound-along none parties 4 history (start t parties) (begins .sound) (g .accepted)
+
+  -- the books against the counts from set-up on; set-up has taken the four ends
+  books : Books parties 4 (grown t parties history) (countsOf (start t parties) history)
+  books =
+      let taken : start t parties .state .taken ≡ 4 = ap (λ m. m .state .taken) (start-is t parties (g .set)) in
+      rw (← taken, ← none-plus (countsOf (start t parties) history))
+      (kept-along none parties (start t parties .state .taken) history (start t parties) (tally 0 0 0 0 0 0) (begins .sound) (start-kept none parties 4 (start t parties) begins) (g .accepted))
+
+pub kept : Kept
+kept t parties history g = let s = sound t parties history g in (s .form, s .fits)
+
+pub listed : Listed
+listed t parties history g =
+    let s = sound t parties history g in
+    let m = grown t parties history in (
+      λ places. listing-is none m (s .inv) (s .form) (s .fits) places,
+      keys-rise none m (s .inv),
+      λ key. (λ is. live-row none m (s .inv) key (keys-live none m (s .inv) key is), λ row. live-keys none m (s .inv) key (row-live m (s .inv) (s .small) key row)),
+    )
+
+pub demand2 : Demand2
+demand2 t parties history event g accepted =
+    let s = sound t parties history g in
+    let m = grown t parties history in
+    let turn = turn-of none parties m event s accepted in
+    changes none m _ (s .inv) (turn .steady .inv) (deedOf m event) (partyOf m (whose event) .own) (turn .steady .live)
+
+-- one factor less
+fewer : (parties lost won : ℕ) → 1 ≤ parties → lost + won ≤ parties * won → lost ≤ (parties - 1) * won
+fewer zero lost won some bound = absurd (omega arith)
+fewer (suc others) lost won some bound = let less : suc others - 1 ≡ others = omega arith in rw less (omega arith)
+
+pub demand3 : Demand3
+demand3 t parties history g =
+    let s = sound t parties history g in
+    let b = books t parties history g in
+    let c = countsOf (start t parties) history in
+    let some : 1 ≤ parties = omega (arith, good (grown t parties history) (s .form) .some, s .count) in
+    (fewer parties (c .lost) (c .won) some (omega (arith, b .bound)), omega (arith, b .paid), b .moves, b .won, b .lost)
+
+pub rows : Rows
+rows t parties history g = let s = sound t parties history g in rw (s .count) (books t parties history g .rows)

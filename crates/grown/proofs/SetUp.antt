@@ -1,0 +1,162 @@
+-- An accepted set-up is a start.
+-- Assumes nothing.
+use Prim.{tt}
+use Prim.Native.Nat.{ℕ, zero, suc, _+_, _≤_, _<_}
+use mathlib.Core.Path.{_≡_, refl, sym, ap}
+use mathlib.Core.Bool.{Bool, true, false, false≢true}
+use native.Mathlib.Omega.{arith}
+use lib.ListN.{length, getD, replicate, length-set, length-replicate}
+use Rattle.refusal.specs.Answer.{Tests, accepted, refused, Left, left, passed, leaving}
+use Rattle.refusal.proofs.Laws.{change-past}
+use Rattle.columns.specs.Column.{at, zeros}
+use Rattle.rows.specs.Table.{Table, keyAt}
+use Rattle.rows.specs.Order.{rank}
+use Rattle.party.specs.declared.Place.the-variants.{Idle}
+use Rattle.party.specs.Party.{blank}
+use Rattle.bare.specs.Bare.{Machine, machine, partyOf}
+use Rattle.form.specs.Form.{rowsIn, goodForm}
+use Rattle.fresh.specs.Fresh.{freshTable, restingState}
+use Rattle.list.specs.Engine.{badTable, setUpTests, setUpOf}
+use Rattle.list.proofs.Laws.{past-set-up, table-fits}
+use Rattle.list.proofs.Kept.{set-up-is-good}
+use Rattle.world.specs.World.{World, Good, Sound, stop, step}
+use Rattle.grown.specs.Demands.{Holds}
+use Rattle.grown.specs.History.{start}
+use Rattle.grown.proofs.View.{Inv}
+use Rattle.grown.proofs.Machine.{viewOf, worldOf}
+use Rattle.grown.proofs.Turn.{KeysSmall}
+use Rattle.grown.proofs.Grown.{Sound as SoundMachine, Start}
+
+-- no row is an orphan
+abbrev pub none : ℕ → Bool
+none row = false
+
+resting : (count j : ℕ) → getD (replicate count blank) j blank ≡ blank
+resting zero j = refl
+resting (suc count) zero = refl
+resting (suc count) (suc j) = resting count j
+
+module _ (parties n : ℕ) where
+  -- 4 + n rows
+  abbrev fresh : Machine
+  fresh = machine (freshTable (suc (suc (suc (suc n))))) (restingState parties 4)
+
+  abbrev w : World
+  w = worldOf none fresh
+
+  nobody : (j row : ℕ) → Holds (partyOf fresh j) row → ⊥
+  nobody j row held = false≢true (rw (resting 16 j) at held .0)
+
+  known : (row : ℕ) → row < 4 → w .Pub row
+  known row below = (below, λ j. nobody j row, refl)
+
+  -- the four ends, one after another
+  ends-sound : (row : ℕ) → row < 4 → Sound w row
+  unfolding rank
+  ends-sound zero below = record {
+    closed = known 1 (omega arith);
+    first = λ a b. refl;
+    last = λ a. absurd (omega (arith, a));
+    rises = λ a b. omega arith;
+    gone = λ z. absurd (omega (arith, z));
+    reach = λ a b o. absurd (omega (arith, a));
+  }
+  ends-sound (suc zero) below = record {
+    closed = known 2 (omega arith);
+    first = λ a b. absurd (omega (arith, b));
+    last = λ a. absurd (omega (arith, a));
+    rises = λ a b. omega arith;
+    gone = λ z. absurd (omega (arith, z));
+    reach = λ a b o. stop refl;
+  }
+  ends-sound (suc (suc zero)) below = record {
+    closed = known 3 (omega arith);
+    first = λ a b. absurd (omega (arith, b));
+    last = λ a. refl;
+    rises = λ a b. absurd (omega (arith, b));
+    gone = λ z. absurd (omega (arith, z));
+    reach = λ a b o. step {a = 1} (omega arith) (stop refl);
+  }
+  ends-sound (suc (suc (suc zero))) below = record {
+    closed = known 3 (omega arith);
+    first = λ a b. absurd (omega (arith, b));
+    last = λ a. refl;
+    rises = λ a b. absurd (omega (arith, b));
+    gone = λ z. absurd (omega (arith, z));
+    reach = λ a b o. absurd (omega (arith, b));
+  }
+  ends-sound (suc (suc (suc (suc row)))) below = absurd (omega arith)
+
+  fresh-inv : Inv (viewOf none fresh)
+  unfolding rank
+  fresh-inv = record {
+    good = record {
+      head = record { known = known 0 (omega arith); pos = omega arith };
+      one = record { known = known 1 (omega arith); pos = omega arith };
+      two = record { known = known 2 (omega arith); pos = omega arith };
+      three = record { known = known 3 (omega arith); pos = omega arith };
+      start = omega arith;
+      order = omega arith;
+      each = λ row k. ends-sound row (k .0);
+    };
+    scale = (refl, refl);
+    holds = λ j. rw (resting 16 j) tt;
+    inside = λ j row held. absurd (nobody j row held);
+    apart = λ i j row a b. absurd (nobody i row a);
+    lost = λ row e. absurd (false≢true e);
+  }
+
+-- ---- the start
+
+zeros-at : (rows row : ℕ) → at (zeros rows) row ≡ 0
+zeros-at zero row = refl
+zeros-at (suc rows) zero = refl
+zeros-at (suc rows) (suc row) = zeros-at rows row
+
+module _ (t : Table) (parties : ℕ) (ok : setUpOf t parties .answer ≡ passed) where
+  abbrev N : ℕ
+  N = rowsIn t
+
+  abbrev laid : Machine
+  laid = machine (freshTable N) (restingState parties 4)
+
+  passes : setUpTests t parties ≡ passed
+  unfolding setUpOf
+  passes = change-past (setUpTests t parties) (machine t (restingState 0 0)) (left laid passed) tt ok
+
+  pub start-is : start t parties ≡ laid
+  unfolding setUpOf
+  start-is = rw (passes, start)
+
+  table : badTable t ≡ false
+  table = past-set-up t parties passes .0
+
+  inv : (rows : ℕ) → 4 ≤ rows → Inv (viewOf none (machine (freshTable rows) (restingState parties 4)))
+  inv zero enough = absurd (omega arith)
+  inv (suc zero) enough = absurd (omega arith)
+  inv (suc (suc zero)) enough = absurd (omega arith)
+  inv (suc (suc (suc zero))) enough = absurd (omega arith)
+  inv (suc (suc (suc (suc n)))) enough = fresh-inv parties n
+
+  fits : badTable (freshTable N) ≡ false
+  fits = let same = table-fits t table in simp (length-set, length-replicate) (rw (same .0, same .1, same .2) at table)
+
+  laid-start : goodForm laid ≡ true → Start none parties laid
+  laid-start form = record {
+    sound = record {
+      inv = inv N (table-fits t table .3);
+      form = form;
+      fits = fits;
+      small = λ row. rw (zeros-at N row) (omega arith);
+      sixteen = refl;
+      count = refl;
+    };
+    idles = λ j. rw (resting 16 j);
+    none = λ j. rw (resting 16 j);
+    moves = refl;
+    won = refl;
+    lost = refl;
+  }
+
+  pub set-up : Start none parties (start t parties)
+  set-up = rw start-is (laid-start (rw start-is at (set-up-is-good t parties ok)))
