@@ -8,7 +8,7 @@ use native.Mathlib.Omega.{arith}
 use Rattle.rows.specs.Table.{Table}
 use Rattle.bare.specs.Bare.{Machine, partyOf}
 use Rattle.form.proofs.Good.{Good, good}
-use Rattle.list.specs.Run.{Event}
+use Rattle.list.specs.Run.{turnOf}
 use Rattle.grown.specs.History.{History, start, Grows, grown}
 use Rattle.grown.specs.Counts.{Counts, plus, tally}
 use Rattle.grown.specs.Deeds.{deedOf, countsOf}
@@ -53,7 +53,7 @@ demand2 t parties history event g accepted =
     let s = sound t parties history g in
     let m = grown t parties history in
     let turn = turn-of none parties m event s accepted in
-    changes none m _ (s .inv) (turn .steady .inv) (deedOf m event) (partyOf m (whose event) .own) (turn .steady .live)
+    changes none m (turnOf m event .memory) (s .inv) (turn .steady .inv) (deedOf m event) (partyOf m (whose event) .own) (turn .steady .live)
 
 -- one factor less
 fewer : (parties lost won : ℕ) → 1 ≤ parties → lost + won ≤ parties * won → lost ≤ (parties - 1) * won

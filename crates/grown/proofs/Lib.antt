@@ -12,3 +12,4 @@ pub mod Changes
 pub mod Grown
 pub mod SetUp
 pub mod Demands
+pub mod Instances

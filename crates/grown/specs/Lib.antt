@@ -3,3 +3,4 @@ pub mod History
 pub mod Counts
 pub mod Deeds
 pub mod Demands
+pub mod Instances
