@@ -13,7 +13,7 @@ use Rattle.grown.specs.History.{History, start, Grows, grown}
 use Rattle.grown.specs.Counts.{Counts, plus, tally}
 use Rattle.grown.specs.Deeds.{deedOf, countsOf}
 use Rattle.grown.specs.Demands.{Kept, Listed, Demand2, Demand3, Rows}
-use Rattle.grown.proofs.Grown.{Sound, Start, Kept as Books, turn-of, sound-turn, sound-along, kept-along, start-kept}
+use Rattle.grown.proofs.Grown.{Healthy, Start, Balanced, turn-of, healthy-along, balanced-along, start-balanced}
 use Rattle.grown.proofs.SetUp.{none, set-up, start-is}
 use Rattle.grown.proofs.Listing.{listing-is, keys-rise, keys-live, live-keys, live-row, row-live}
 use Rattle.grown.proofs.Changes.{changes}
@@ -26,22 +26,22 @@ module _ (t : Table) (parties : ℕ) (history : History) (g : Grows t parties hi
   begins : Start none parties (start t parties)
   begins = set-up t parties (g .set)
 
-  sound : Sound none parties (grown t parties history)
-  sound = sound-along none parties 4 history (start t parties) (begins .sound) (g .accepted)
+  healthy : Healthy none parties (grown t parties history)
+  healthy = healthy-along none parties history (start t parties) (begins .healthy) (g .accepted)
 
   -- the books against the counts from set-up on; set-up has taken the four ends
-  books : Books parties 4 (grown t parties history) (countsOf (start t parties) history)
-  books =
+  balanced : Balanced parties 4 (grown t parties history) (countsOf (start t parties) history)
+  balanced =
       let taken : start t parties .state .taken ≡ 4 = ap (λ m. m .state .taken) (start-is t parties (g .set)) in
       rw (← taken, ← none-plus (countsOf (start t parties) history))
-      (kept-along none parties (start t parties .state .taken) history (start t parties) (tally 0 0 0 0 0 0) (begins .sound) (start-kept none parties 4 (start t parties) begins) (g .accepted))
+      (balanced-along none parties (start t parties .state .taken) history (start t parties) (tally 0 0 0 0 0 0) (begins .healthy) (start-balanced none parties (start t parties) begins) (g .accepted))
 
 pub kept : Kept
-kept t parties history g = let s = sound t parties history g in (s .form, s .fits)
+kept t parties history g = let s = healthy t parties history g in (s .form, s .fits)
 
 pub listed : Listed
 listed t parties history g =
-    let s = sound t parties history g in
+    let s = healthy t parties history g in
     let m = grown t parties history in (
       λ places. listing-is none m (s .inv) (s .form) (s .fits) places,
       keys-rise none m (s .inv),
@@ -50,7 +50,7 @@ listed t parties history g =
 
 pub demand2 : Demand2
 demand2 t parties history event g accepted =
-    let s = sound t parties history g in
+    let s = healthy t parties history g in
     let m = grown t parties history in
     let turn = turn-of none parties m event s accepted in
     changes none m (turnOf m event .memory) (s .inv) (turn .steady .inv) (deedOf m event) (partyOf m (whose event) .own) (turn .steady .live)
@@ -62,11 +62,11 @@ fewer (suc others) lost won some bound = let less : suc others - 1 ≡ others = 
 
 pub demand3 : Demand3
 demand3 t parties history g =
-    let s = sound t parties history g in
-    let b = books t parties history g in
+    let s = healthy t parties history g in
+    let b = balanced t parties history g in
     let c = countsOf (start t parties) history in
     let some : 1 ≤ parties = omega (arith, good (grown t parties history) (s .form) .some, s .count) in
     (fewer parties (c .lost) (c .won) some (omega (arith, b .bound)), omega (arith, b .paid), b .moves, b .won, b .lost)
 
 pub rows : Rows
-rows t parties history g = let s = sound t parties history g in rw (s .count) (books t parties history g .rows)
+rows t parties history g = let s = healthy t parties history g in rw (s .count) (balanced t parties history g .rows)

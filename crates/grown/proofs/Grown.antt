@@ -30,7 +30,7 @@ use Rattle.grown.proofs.Changes.{ins-outs}
 
 -- ---- what holds of a machine whatever came before
 
-pub record Sound (orphan : ℕ → Bool) (parties : ℕ) (m : Machine) : Type 0 where
+pub record Healthy (orphan : ℕ → Bool) (parties : ℕ) (m : Machine) : Type 0 where
   pub inv : Inv (viewOf orphan m)
   pub form : goodForm m ≡ true
   pub fits : badTable (m .table) ≡ false
@@ -40,7 +40,7 @@ pub record Sound (orphan : ℕ → Bool) (parties : ℕ) (m : Machine) : Type 0 
 
 -- a list at rest that nobody has moved in yet: set-up is one, and an imported list can be another
 pub record Start (orphan : ℕ → Bool) (parties : ℕ) (m : Machine) : Type 0 where
-  pub sound : Sound orphan parties m
+  pub healthy : Healthy orphan parties m
   pub idles : (j : ℕ) → partyOf m j .place ≡ Idle
   pub none : (j : ℕ) → partyOf m j .unpublished ≡ false
   pub moves : m .state .moves ≡ 0
@@ -48,7 +48,7 @@ pub record Start (orphan : ℕ → Bool) (parties : ℕ) (m : Machine) : Type 0 
   pub lost : m .state .lost ≡ 0
 
 -- the books against the counts since a start at which so many rows were taken
-pub record Kept (parties taken : ℕ) (m : Machine) (c : Counts) : Type 0 where
+pub record Balanced (parties taken : ℕ) (m : Machine) (c : Counts) : Type 0 where
   -- each won swap makes at most one swap of each other party stale
   pub bound : c .lost + sum (staleOf m) parties + c .won ≤ parties * c .won
   pub paid : c .won + sum (owesOf m) parties ≤ c .ins + 2 * c .outs
@@ -59,7 +59,7 @@ pub record Kept (parties taken : ℕ) (m : Machine) (c : Counts) : Type 0 where
 
 -- ---- one event
 
-module _ (orphan : ℕ → Bool) (parties : ℕ) (m : Machine) (event : Event) (s : Sound orphan parties m) (e : accepts m event ≡ true) where
+module _ (orphan : ℕ → Bool) (parties : ℕ) (m : Machine) (event : Event) (s : Healthy orphan parties m) (e : accepts m event ≡ true) where
   abbrev m′ : Machine
   m′ = turnOf m event .memory
 
@@ -75,8 +75,8 @@ module _ (orphan : ℕ → Bool) (parties : ℕ) (m : Machine) (event : Event) (
   pub turn-of : Turned orphan m (whose event) m′ (deedOf m event)
   turn-of = turned orphan m (s .inv) (form .rows) (whose event) inside (omega (arith, form)) (omega (arith, form)) (omega (arith, form)) (h .turn)
 
-  pub sound-turn : Sound orphan parties m′
-  sound-turn = let t = turn-of in record {
+  pub healthy-turn : Healthy orphan parties m′
+  healthy-turn = let t = turn-of in record {
     inv = t .steady .inv;
     form = h .kept;
     fits = h .still-fits;
@@ -88,8 +88,8 @@ module _ (orphan : ℕ → Bool) (parties : ℕ) (m : Machine) (event : Event) (
   pub keys-turn : (extra (liveKeys m′) (liveKeys m) ≡ insOf (deedOf m event)) × (extra (liveKeys m) (liveKeys m′) ≡ outsOf (deedOf m event))
   keys-turn = let t = turn-of in ins-outs orphan m m′ (s .inv) (t .steady .inv) (deedOf m event) (partyOf m (whose event) .own) (t .steady .live)
 
-  pub kept-turn : (taken : ℕ) (c : Counts) → Kept parties taken m c → Kept parties taken m′ (plus c (eventCounts m event))
-  kept-turn taken c k =
+  pub balanced-turn : (taken : ℕ) (c : Counts) → Balanced parties taken m c → Balanced parties taken m′ (plus c (eventCounts m event))
+  balanced-turn taken c k =
       let t = turn-of in
       let i = whose event in
       let deed = deedOf m event in
@@ -126,24 +126,24 @@ along P keeps (first ∷ rest) m start ok =
     let this : accepts m first ≡ true = and-left (accepts m first) (acceptsAll (turnOf m first .memory) rest) ok in
     along P keeps rest (turnOf m first .memory) (keeps m first start this) (and-right (accepts m first) (acceptsAll (turnOf m first .memory) rest) ok)
 
-module _ (orphan : ℕ → Bool) (parties taken : ℕ) where
-  pub sound-along : (history : History) (m : Machine) → Sound orphan parties m → Accepted m history → Sound orphan parties (run m history)
-  sound-along history m s ok = along (Sound orphan parties) (λ m event s e. sound-turn orphan parties m event s e) history m s ok
+module _ (orphan : ℕ → Bool) (parties : ℕ) where
+  pub healthy-along : (history : History) (m : Machine) → Healthy orphan parties m → Accepted m history → Healthy orphan parties (run m history)
+  healthy-along history m s ok = along (Healthy orphan parties) (λ m event s e. healthy-turn orphan parties m event s e) history m s ok
 
-  pub kept-along : (history : History) (m : Machine) (c : Counts) → Sound orphan parties m → Kept parties taken m c → Accepted m history →
-      Kept parties taken (run m history) (plus c (countsOf m history))
+  pub balanced-along : (taken : ℕ) (history : History) (m : Machine) (c : Counts) → Healthy orphan parties m → Balanced parties taken m c → Accepted m history →
+      Balanced parties taken (run m history) (plus c (countsOf m history))
   unfolding run acceptsAll countsOf
-  kept-along [] m c s k ok = rw (plus-none c) k
-  kept-along (first ∷ rest) m c s k ok =
+  balanced-along taken [] m c s k ok = rw (plus-none c) k
+  balanced-along taken (first ∷ rest) m c s k ok =
       let this : accepts m first ≡ true = and-left (accepts m first) (acceptsAll (turnOf m first .memory) rest) ok in
       let m′ = turnOf m first .memory in
       rw (plus-plus c (eventCounts m first) (countsOf m′ rest)) at
-      (kept-along rest m′ (plus c (eventCounts m first)) (sound-turn orphan parties m first s this) (kept-turn orphan parties m first s this taken c k)
+      (balanced-along taken rest m′ (plus c (eventCounts m first)) (healthy-turn orphan parties m first s this) (balanced-turn orphan parties m first s this taken c k)
       (and-right (accepts m first) (acceptsAll m′ rest) ok))
 
   -- at a start nothing is stale, owed or held
-  pub start-kept : (m : Machine) → Start orphan parties m → Kept parties (m .state .taken) m (tally 0 0 0 0 0 0)
-  start-kept m s =
+  pub start-balanced : (m : Machine) → Start orphan parties m → Balanced parties (m .state .taken) m (tally 0 0 0 0 0 0)
+  start-balanced m s =
       let stales : sum (staleOf m) parties ≡ 0 = sum-zero (staleOf m) parties (λ j n. rw (s .idles j)) in
       let owings : sum (owesOf m) parties ≡ 0 = sum-zero (owesOf m) parties (λ j n. rw (s .idles j)) in
       let holdings : sum (heldOf m) parties ≡ 0 = sum-zero (heldOf m) parties (λ j n. rw (s .none j)) in

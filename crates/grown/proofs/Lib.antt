@@ -11,5 +11,6 @@ pub mod Listing
 pub mod Changes
 pub mod Grown
 pub mod SetUp
+pub mod Heeded
 pub mod Demands
 pub mod Instances

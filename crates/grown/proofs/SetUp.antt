@@ -25,7 +25,7 @@ use Rattle.grown.specs.History.{start}
 use Rattle.grown.proofs.View.{Inv}
 use Rattle.grown.proofs.Machine.{viewOf, worldOf}
 use Rattle.grown.proofs.Turn.{KeysSmall}
-use Rattle.grown.proofs.Grown.{Sound as SoundMachine, Start}
+use Rattle.grown.proofs.Grown.{Start}
 
 -- no row is an orphan
 abbrev pub none : ℕ → Bool
@@ -143,7 +143,7 @@ module _ (t : Table) (parties : ℕ) (ok : setUpOf t parties .answer ≡ passed)
 
   laid-start : goodForm laid ≡ true → Start none parties laid
   laid-start form = record {
-    sound = record {
+    healthy = record {
       inv = inv N (table-fits t table .3);
       form = form;
       fits = fits;

@@ -1,4 +1,4 @@
--- What each event of a history is, and the counts made from that alone: no tally of the state is looked at (document 01, "Three demands").
+-- What each event of a history is, and the counts made from that alone: no tally of the state is looked at.
 use mathlib.Core.List.{List, [], _∷_}
 use mathlib.Core.Bool.{cond}
 use Prim.Native.Nat.{ℕ}
@@ -25,7 +25,7 @@ pub data Deed : Type 0 where
   cleaned : Deed
   lost : Deed
 
--- at a place that swaps, the swap is won if the row still leads where the party expects
+-- at a place that swaps, the swap is won if the row still leads where the party expects (document 01, "The moves")
 abbrev pub deedAt : Place → Table → Party → Deed
 deedAt Idle t q = read
 deedAt (Walk call k) t q = read

@@ -1,4 +1,4 @@
--- What is proved of every list grown from set-up: the second and the third demand of document 01 ("Three demands"), and what they stand on.
+-- What is proved of every list grown from set-up: demands 2 and 3, and what they stand on. docs/PROOFS.md says each in words.
 use mathlib.Core.Path.{_≡_}
 use mathlib.Core.List.{List}
 use mathlib.Core.Bool.{true, false}
@@ -13,11 +13,17 @@ use Rattle.bare.specs.Bare.{Machine, partyOf}
 use Rattle.form.specs.Form.{goodForm}
 use Rattle.chain.specs.Chain.{isLive, oneIf}
 use Rattle.list.specs.Engine.{badTable, liveKeys, placesWith, listOf}
-use Rattle.list.specs.Run.{Event, turnOf}
+use Rattle.list.specs.Run.{Event, turnOf, run}
 use Rattle.world.specs.Keys.{Rising, has, placed, without}
 use Rattle.world.specs.Sum.{sum}
-use Rattle.grown.specs.History.{History, accepts, start, Grows, grown}
+use Rattle.grown.specs.History.{History, accepts, Accepted, heeded, keysFit, start, Grows, grown}
 use Rattle.grown.specs.Deeds.{Deed, called, read, added, marked, cleaned, lost, deedOf, countsOf}
+
+-- ---- refused events
+
+-- they leave no trace: with them or without them the list is the same, so what is said of accepted histories is said of all
+abbrev pub Heeded : Type 0
+Heeded = (m : Machine) (history : History) → keysFit history ≡ true → (run m history ≡ run m (heeded m history)) × Accepted m (heeded m history)
 
 -- ---- good form
 

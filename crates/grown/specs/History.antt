@@ -1,7 +1,7 @@
--- Histories: the events after a set-up, and which are accepted (document 01, "Three demands").
+-- Histories: the events after a set-up, and which of them the engine accepts.
 use mathlib.Core.Path.{_≡_}
 use mathlib.Core.List.{List, [], _∷_}
-use mathlib.Core.Bool.{Bool, true, false, _&&_}
+use mathlib.Core.Bool.{Bool, true, false, cond, _&&_}
 use Prim.Native.Nat.{ℕ}
 use lib.Dec.{ltb}
 use Rattle.refusal.specs.Answer.{Answer, accepted, refused, passed}
@@ -35,6 +35,15 @@ acceptsAll m (first ∷ rest) = accepts m first && acceptsAll (turnOf m first .m
 
 abbrev pub Accepted : Machine → History → Type 0
 Accepted m history = acceptsAll m history ≡ true
+
+-- the events of a history that are accepted; a refused one is passed over
+unfoldable pub heeded : Machine → History → History
+heeded m [] = []
+heeded m (first ∷ rest) = cond (accepts m first) (first ∷ heeded (turnOf m first .memory) rest) (heeded m rest)
+
+unfoldable pub keysFit : History → Bool
+keysFit [] = true
+keysFit (first ∷ rest) = keyFits first && keysFit rest
 
 -- ---- lists grown from set-up
 
