@@ -1,14 +1,17 @@
--- The proofs.
+-- From what a party knows to the demands, in the order in which each stands on the one before.
 pub mod Party
 pub mod View
-pub mod Does
 pub mod Machine
+pub mod Does
 pub mod Steps
 pub mod Books
 pub mod Turn
-pub mod Events
 pub mod Listing
 pub mod Changes
+pub mod Neat
+pub mod Replies
+pub mod Track
+pub mod Events
 pub mod Grown
 pub mod SetUp
 pub mod Heeded

@@ -55,7 +55,7 @@ module _ (t : Table) where
       (λ item. 2 < cond item (3 + keyAt t row) (endRank row) → cond item (3 + keyAt t row) (endRank row) < 4294967299 → item ≡ true)
       (isItem t row) (λ i low high. refl) (λ i low high. absurd (end-outside row low high)))
 
-  no-splice : (row : ℕ) → 0 < rankAt t row → isSplice t row ≡ false
+  pub no-splice : (row : ℕ) → 0 < rankAt t row → isSplice t row ≡ false
   no-splice row pos = by-test (λ splice. splice ≡ false) (isSplice t row) (λ e. absurd (omega (arith, splice-rank t row e))) (λ e. refl)
 
   live-item : (row : ℕ) → isLive t row ≡ true → (rankAt t row ≡ 3 + keyAt t row) × (0 < rankAt t (nextAt t row))

@@ -108,7 +108,7 @@ plain-small (Splice row to from) t plain old = put-small (t .key) row 0 (omega a
 -- ---- the tallies
 
 -- an access changes the tallies only
-same-parties : (access : Access) (st : State) → tallied access st .parties ≡ st .parties
+pub same-parties : (access : Access) (st : State) → tallied access st .parties ≡ st .parties
 same-parties None st = refl
 same-parties Read st = refl
 same-parties Won st = refl

@@ -2,5 +2,6 @@
 pub mod History
 pub mod Counts
 pub mod Deeds
+pub mod Rest
 pub mod Demands
 pub mod Instances
