@@ -2,22 +2,33 @@
 -- Assumes nothing.
 use Prim.Native.Nat.{ℕ, zero, suc, _+_, _-_, _*_, _≤_, _<_}
 use mathlib.Core.Path.{_≡_, refl, ap}
-use mathlib.Core.Bool.{Bool}
+use mathlib.Core.Bool.{true}
+use mathlib.Core.Logic.{dite}
 use native.Mathlib.Nat.{zero-add}
+use native.Mathlib.Decide.{decLt}
 use native.Mathlib.Omega.{arith}
+use lib.Dec.{eqb}
+use lib.ListN.{length, List·getD-eq-default}
+use borrow.Author.Tests.{le-ltb}
+use Rattle.columns.proofs.Every.{and-left, and-right}
 use Rattle.rows.specs.Table.{Table}
+use Rattle.party.specs.declared.Place.the-variants.{Idle}
+use Rattle.party.specs.Party.{blank}
 use Rattle.bare.specs.Bare.{Machine, partyOf}
+use Rattle.form.specs.Form.{isIdle, recordFits}
 use Rattle.form.proofs.Good.{Good, good}
 use Rattle.list.specs.Run.{turnOf}
 use Rattle.grown.specs.History.{History, start, Grows, grown}
 use Rattle.grown.specs.Counts.{Counts, plus, tally}
 use Rattle.grown.specs.Deeds.{deedOf, countsOf}
+use Rattle.grown.specs.Rest.{AtRest}
 use Rattle.grown.specs.Demands.{Kept, Listed, Demand2, Demand3, Rows}
 use Rattle.grown.proofs.Grown.{Healthy, Start, Balanced, turn-of, healthy-along, balanced-along, start-balanced}
 use Rattle.grown.proofs.SetUp.{none, set-up, start-is}
 use Rattle.grown.proofs.Listing.{listing-is, keys-rise, keys-live, live-keys, live-row, row-live}
 use Rattle.grown.proofs.Changes.{changes}
-use Rattle.grown.proofs.Events.{whose}
+use Rattle.grown.proofs.Neat.{rest-clean}
+use Rattle.grown.proofs.Events.{whose, idle-is}
 
 none-plus : (c : Counts) → plus (tally 0 0 0 0 0 0) c ≡ c
 none-plus c = simp zero-add refl
@@ -70,3 +81,21 @@ demand3 t parties history g =
 
 pub rows : Rows
 rows t parties history g = let s = healthy t parties history g in rw (s .count) (balanced t parties history g .rows)
+
+-- places of the party table that no party uses are idle as well
+all-idle : (m : Machine) → Good m → length (m .state .parties) ≡ 16 → ((party : ℕ) → party < m .state .count → isIdle (partyOf m party .place) ≡ true) →
+    (j : ℕ) → partyOf m j .place ≡ Idle
+all-idle m g sixteen idle j = dite (decLt j (m .state .count))
+    (λ (known : j < m .state .count). idle-is (partyOf m j .place) (idle j known))
+    (λ (past : j < m .state .count → ⊥). dite (decLt j 16)
+    (λ (unused : j < 16). idle-is (partyOf m j .place)
+    (and-left (isIdle (partyOf m j .place)) (eqb (partyOf m j .own) 0)
+    (rw (le-ltb j (m .state .count) (omega arith)) at (and-right (recordFits (m .state .taken) (partyOf m j)) _ (g .parties j unused)))))
+    (λ (none : j < 16 → ⊥). ap (λ q. q .place) (List·getD-eq-default (m .state .parties) blank {n = j} (omega arith))))
+
+pub at-rest : AtRest
+at-rest t parties history g idle steps =
+    let s = healthy t parties history g in
+    let m = grown t parties history in
+    let form = good m (s .form) in
+    rest-clean none m (s .inv) (form .rows) (s .neat) (all-idle m form (s .sixteen) (rw (s .count) idle)) steps

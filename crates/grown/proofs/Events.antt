@@ -102,7 +102,7 @@ call-passed (accepted done) m after e = refl
 call-passed (refused number) m after e = absurd (false≢true e)
 
 -- an idle party is at no other place
-idle-is : (place : Place) → isIdle place ≡ true → place ≡ Idle
+pub idle-is : (place : Place) → isIdle place ≡ true → place ≡ Idle
 idle-is Idle e = refl
 idle-is (Walk call k) e = absurd (false≢true e)
 idle-is (Skip call k) e = absurd (false≢true e)

@@ -25,6 +25,7 @@ use Rattle.grown.proofs.View.{Inv}
 use Rattle.grown.proofs.Machine.{viewOf, worldOf, insOf, outsOf}
 use Rattle.grown.proofs.Books.{others-stale}
 use Rattle.grown.proofs.Turn.{staleOf, owesOf, heldOf, KeysSmall, Turned, turned}
+use Rattle.grown.proofs.Neat.{Neat, neat-turn}
 use Rattle.grown.proofs.Events.{whose, Happens, happens}
 use Rattle.grown.proofs.Changes.{ins-outs}
 
@@ -37,6 +38,7 @@ pub record Healthy (orphan : ℕ → Bool) (parties : ℕ) (m : Machine) : Type 
   pub small : KeysSmall (m .table)
   pub sixteen : length (m .state .parties) ≡ 16
   pub count : m .state .count ≡ parties
+  pub neat : Neat (viewOf orphan m)
 
 -- a list at rest that nobody has moved in yet: set-up is one, and an imported list can be another
 pub record Start (orphan : ℕ → Bool) (parties : ℕ) (m : Machine) : Type 0 where
@@ -83,6 +85,7 @@ module _ (orphan : ℕ → Bool) (parties : ℕ) (m : Machine) (event : Event) (
     small = t .small (s .small);
     sixteen = t .sixteen ∙ s .sixteen;
     count = t .count ∙ s .count;
+    neat = neat-turn orphan m (s .inv) (form .rows) (whose event) inside (s .neat) (h .turn) t;
   }
 
   pub keys-turn : (extra (liveKeys m′) (liveKeys m) ≡ insOf (deedOf m event)) × (extra (liveKeys m) (liveKeys m′) ≡ outsOf (deedOf m event))

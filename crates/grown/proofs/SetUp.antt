@@ -19,12 +19,13 @@ use Rattle.fresh.specs.Fresh.{freshTable, restingState}
 use Rattle.list.specs.Engine.{badTable, setUpTests, setUpOf}
 use Rattle.list.proofs.Laws.{past-set-up, table-fits}
 use Rattle.list.proofs.Kept.{set-up-is-good}
-use Rattle.world.specs.World.{World, Good, Sound, stop, step}
+use Rattle.world.specs.World.{World, Sound, Marked, stop, step}
 use Rattle.grown.specs.Demands.{Holds}
 use Rattle.grown.specs.History.{start}
 use Rattle.grown.proofs.View.{Inv}
 use Rattle.grown.proofs.Machine.{viewOf, worldOf}
 use Rattle.grown.proofs.Turn.{KeysSmall}
+use Rattle.grown.proofs.Neat.{Neat, neat-start}
 use Rattle.grown.proofs.Grown.{Start}
 
 -- no row is an orphan
@@ -106,6 +107,17 @@ module _ (parties n : ℕ) where
     lost = λ row e. absurd (false≢true e);
   }
 
+  not-removed : (row : ℕ) → row < 4 → Marked w row → ⊥
+  unfolding rank
+  not-removed zero below z = omega (arith, z)
+  not-removed (suc zero) below z = omega (arith, z)
+  not-removed (suc (suc zero)) below z = omega (arith, z)
+  not-removed (suc (suc (suc zero))) below z = omega (arith, z)
+  not-removed (suc (suc (suc (suc row)))) below z = omega arith
+
+  fresh-neat : Neat (viewOf none fresh)
+  fresh-neat = neat-start (λ row k r z. not-removed row (k .0) z)
+
 -- ---- the start
 
 zeros-at : (rows row : ℕ) → at (zeros rows) row ≡ 0
@@ -131,25 +143,27 @@ module _ (t : Table) (parties : ℕ) (ok : setUpOf t parties .answer ≡ passed)
   table : badTable t ≡ false
   table = past-set-up t parties passes .0
 
-  inv : (rows : ℕ) → 4 ≤ rows → Inv (viewOf none (machine (freshTable rows) (restingState parties 4)))
-  inv zero enough = absurd (omega arith)
-  inv (suc zero) enough = absurd (omega arith)
-  inv (suc (suc zero)) enough = absurd (omega arith)
-  inv (suc (suc (suc zero))) enough = absurd (omega arith)
-  inv (suc (suc (suc (suc n)))) enough = fresh-inv parties n
+  -- four rows at least are there
+  laid-view : (rows : ℕ) → 4 ≤ rows → let view = viewOf none (machine (freshTable rows) (restingState parties 4)) in Inv view × Neat view
+  laid-view zero enough = absurd (omega arith)
+  laid-view (suc zero) enough = absurd (omega arith)
+  laid-view (suc (suc zero)) enough = absurd (omega arith)
+  laid-view (suc (suc (suc zero))) enough = absurd (omega arith)
+  laid-view (suc (suc (suc (suc n)))) enough = (fresh-inv parties n, fresh-neat parties n)
 
   fits : badTable (freshTable N) ≡ false
   fits = let same = table-fits t table in simp (length-set, length-replicate) (rw (same .0, same .1, same .2) at table)
 
   laid-start : goodForm laid ≡ true → Start none parties laid
-  laid-start form = record {
+  laid-start form = let view = laid-view N (table-fits t table .3) in record {
     healthy = record {
-      inv = inv N (table-fits t table .3);
+      inv = view .0;
       form = form;
       fits = fits;
       small = λ row. rw (zeros-at N row) (omega arith);
       sixteen = refl;
       count = refl;
+      neat = view .1;
     };
     idles = λ j. rw (resting 16 j);
     none = λ j. rw (resting 16 j);
