@@ -4,4 +4,5 @@ pub mod Counts
 pub mod Deeds
 pub mod Rest
 pub mod Demands
+pub mod Answers
 pub mod Instances
