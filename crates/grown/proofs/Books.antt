@@ -4,7 +4,7 @@ use Prim.{Unit, tt}
 use Prim.Native.Nat.{ℕ, _+_, _-_, _*_, _≤_, _<_, min}
 use mathlib.Core.Path.{_≡_, refl, sym, ap, _∙_}
 use mathlib.Core.Logic.{_⊎_, inl, inr, ⊎-elim, _≢_}
-use mathlib.Core.Bool.{Bool, true, false, not, _&&_}
+use mathlib.Core.Bool.{Bool, true, not, _&&_}
 use native.Mathlib.Nat.{le-refl}
 use native.Mathlib.Omega.{arith}
 use lib.Seq.{getD-set-other}
@@ -18,7 +18,7 @@ use Rattle.party.specs.declared.Place.the-variants.{Idle, Walk, Skip, AddSwap, 
 use Rattle.party.specs.declared.Party.{Party}
 use Rattle.party.specs.declared.Access.{Access}
 use Rattle.party.specs.declared.Access.the-variants.{None, Read, Won, Lost}
-use Rattle.party.specs.Party.{idling, published, walking, adding, backing, marking, rereading, cleaning, looking}
+use Rattle.party.specs.Party.{idling, published, walking, adding, backing, marking, rereading, cleaning}
 use Rattle.moves.specs.declared.Said.{Said}
 use Rattle.moves.specs.declared.Moved.{Moved}
 use Rattle.moves.specs.Moves.{reads, answers, wins, loses}

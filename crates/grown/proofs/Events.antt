@@ -1,12 +1,11 @@
 -- An accepted event is a turn of its party, made in a state that passed the engine's tests.
 -- Assumes nothing.
-use Prim.Native.Nat.{ℕ, zero, suc, _+_, _≤_, _<_}
+use Prim.Native.Nat.{ℕ, _≤_, _<_}
 use mathlib.Core.Path.{_≡_, refl, ap, _∙_}
-use mathlib.Core.Logic.{_≢_}
-use mathlib.Core.Bool.{Bool, true, false, not, cond, _&&_, true≢false, false≢true}
+use mathlib.Core.Bool.{Bool, true, false, not, cond, _&&_, false≢true}
 use native.Mathlib.Omega.{arith}
 use lib.Dec.{eqb, ltb, leb}
-use lib.ListN.{length, length-set}
+use lib.ListN.{length-set}
 use borrow.Author.Tests.{leb-false, ltb-true, eqb-false, not-false, lt-ltb}
 use Rattle.refusal.specs.Answer.{accepted, refused, Left, left, Tests, passed, refusing, leaving}
 use Rattle.refusal.proofs.Laws.{past-test}
@@ -19,17 +18,17 @@ use Rattle.party.specs.declared.Call.{Call}
 use Rattle.party.specs.declared.Call.the-variants.{Add, Remove, Contains}
 use Rattle.party.specs.declared.Place.{Place}
 use Rattle.party.specs.declared.Place.the-variants.{Idle, Walk, Skip, AddSwap, Mark, Reread, Clean, Back, Look}
-use Rattle.party.specs.Party.{partyAt, oneMore}
+use Rattle.party.specs.Party.{oneMore}
 use Rattle.moves.specs.declared.Said.{Said}
 use Rattle.moves.specs.Moves.{placeOf}
 use Rattle.bare.specs.Bare.{Machine, partyOf, startOf, begunOf, started, bareCallOf, bareMoveOf}
 use Rattle.form.specs.Form.{rowsIn, isIdle, isContains, goodForm}
 use Rattle.form.proofs.Good.{Good, good}
-use Rattle.list.specs.Engine.{badTable, formTests, callNamed, noRow, callAsks, callTests, callOf, moveAsks, moveTests, accepting, moveOf}
+use Rattle.list.specs.Engine.{badTable, callNamed, noRow, callAsks, callTests, callOf, moveAsks, moveTests, accepting, moveOf}
 use Rattle.list.specs.Run.{Event, calls, moves, quiet, turnOf}
 use Rattle.list.proofs.Laws.{past-form, table-fits}
 use Rattle.list.proofs.Kept.{call-keeps, move-keeps}
-use Rattle.grown.specs.History.{keyFits, isAccepted, accepts}
+use Rattle.grown.specs.History.{isAccepted, accepts}
 use Rattle.grown.specs.Deeds.{called, deedOf}
 use Rattle.grown.proofs.Does.{by-test}
 use Rattle.grown.proofs.Turn.{begun, Turn, moves as move-turn, spares, takes, asks}

@@ -1,14 +1,14 @@
 -- What holds along every accepted history from a start: the invariant, and the books against the counts of the history.
 -- Assumes nothing.
 use Prim.Native.Nat.{ℕ, _+_, _*_, _≤_, _<_}
-use mathlib.Core.Path.{_≡_, refl, sym, subst, _∙_}
-use mathlib.Core.List.{List, [], _∷_}
+use mathlib.Core.Path.{_≡_, refl, _∙_}
+use mathlib.Core.List.{[], _∷_}
 use mathlib.Core.Bool.{Bool, true, false}
 use native.Mathlib.Nat.{add-zero, add-assoc}
 use native.Mathlib.Omega.{arith}
 use lib.ListN.{length}
 use Rattle.columns.proofs.Every.{and-left, and-right}
-use Rattle.rows.specs.Table.{Table, nextAt}
+use Rattle.rows.specs.Table.{nextAt}
 use Rattle.party.specs.declared.Place.the-variants.{Idle}
 use Rattle.bare.specs.Bare.{Machine, partyOf}
 use Rattle.form.specs.Form.{goodForm}
@@ -19,7 +19,7 @@ use Rattle.world.specs.Sum.{sum}
 use Rattle.world.specs.Keys.{extra}
 use Rattle.world.proofs.Sum.{sum-zero, sum-one, sum-step}
 use Rattle.grown.specs.History.{History, accepts, acceptsAll, Accepted}
-use Rattle.grown.specs.Counts.{Counts, tally, withKeys, plus}
+use Rattle.grown.specs.Counts.{Counts, tally, plus}
 use Rattle.grown.specs.Deeds.{deedOf, deedCounts, eventCounts, countsOf}
 use Rattle.grown.proofs.View.{Inv}
 use Rattle.grown.proofs.Machine.{viewOf, worldOf, insOf, outsOf}

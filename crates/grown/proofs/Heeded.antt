@@ -4,14 +4,14 @@ use mathlib.Core.Path.{_≡_, refl, sym}
 use mathlib.Core.List.{[], _∷_}
 use mathlib.Core.Bool.{Bool, true, false, cond, _&&_, true≢false}
 use Prim.Native.Nat.{ℕ}
-use Rattle.refusal.specs.Answer.{Answer, accepted, refused, Left, Tests}
+use Rattle.refusal.specs.Answer.{Answer, accepted, refused, Tests}
 use Rattle.columns.proofs.Every.{and-left, and-right, and-both}
 use Rattle.moves.specs.declared.Said.{Said}
 use Rattle.bare.specs.Bare.{Machine}
 use Rattle.list.specs.Engine.{callOf, moveOf}
 use Rattle.list.specs.Run.{Event, calls, moves, quiet, turnOf, run}
 use Rattle.list.proofs.Promises.{refused-call-leaves, refused-move-leaves}
-use Rattle.grown.specs.History.{History, keyFits, isAccepted, accepts, acceptsAll, heeded, keysFit}
+use Rattle.grown.specs.History.{keyFits, isAccepted, accepts, acceptsAll, heeded, keysFit}
 use Rattle.grown.specs.Demands.{Heeded}
 use Rattle.grown.proofs.Does.{by-test}
 

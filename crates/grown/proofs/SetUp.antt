@@ -1,41 +1,34 @@
 -- An accepted set-up is a start.
 -- Assumes nothing.
 use Prim.{tt}
-use Prim.Native.Nat.{ℕ, zero, suc, _+_, _≤_, _<_}
-use mathlib.Core.Path.{_≡_, refl, sym, ap}
+use Prim.Native.Nat.{ℕ, zero, suc, _≤_, _<_}
+use mathlib.Core.Path.{_≡_, refl}
 use mathlib.Core.Bool.{Bool, true, false, false≢true}
 use native.Mathlib.Omega.{arith}
-use lib.ListN.{length, getD, replicate, length-set, length-replicate}
-use Rattle.refusal.specs.Answer.{Tests, accepted, refused, Left, left, passed, leaving}
+use lib.ListN.{length-set, length-replicate}
+use Rattle.refusal.specs.Answer.{left, passed}
 use Rattle.refusal.proofs.Laws.{change-past}
-use Rattle.columns.specs.Column.{at, zeros}
-use Rattle.rows.specs.Table.{Table, keyAt}
+use Rattle.columns.specs.Column.{at}
+use Rattle.rows.specs.Table.{Table}
 use Rattle.rows.specs.Order.{rank}
-use Rattle.party.specs.declared.Place.the-variants.{Idle}
 use Rattle.party.specs.Party.{blank}
 use Rattle.bare.specs.Bare.{Machine, machine, partyOf}
 use Rattle.form.specs.Form.{rowsIn, goodForm}
 use Rattle.fresh.specs.Fresh.{freshTable, restingState}
 use Rattle.list.specs.Engine.{badTable, setUpTests, setUpOf}
-use Rattle.list.proofs.Laws.{past-set-up, table-fits}
+use Rattle.list.proofs.Laws.{repeat-at, past-set-up, table-fits}
 use Rattle.list.proofs.Kept.{set-up-is-good}
 use Rattle.world.specs.World.{World, Sound, Marked, stop, step}
 use Rattle.grown.specs.Demands.{Holds}
 use Rattle.grown.specs.History.{start}
 use Rattle.grown.proofs.View.{Inv}
 use Rattle.grown.proofs.Machine.{viewOf, worldOf}
-use Rattle.grown.proofs.Turn.{KeysSmall}
 use Rattle.grown.proofs.Neat.{Neat, neat-start}
 use Rattle.grown.proofs.Grown.{Start}
 
 -- no row is an orphan
 abbrev pub none : ℕ → Bool
 none row = false
-
-resting : (count j : ℕ) → getD (replicate count blank) j blank ≡ blank
-resting zero j = refl
-resting (suc count) zero = refl
-resting (suc count) (suc j) = resting count j
 
 module _ (parties n : ℕ) where
   -- 4 + n rows
@@ -46,7 +39,7 @@ module _ (parties n : ℕ) where
   w = worldOf none fresh
 
   nobody : (j row : ℕ) → Holds (partyOf fresh j) row → ⊥
-  nobody j row held = false≢true (rw (resting 16 j) at held .0)
+  nobody j row held = false≢true (rw (repeat-at blank 16 j) at held .0)
 
   known : (row : ℕ) → row < 4 → w .Pub row
   known row below = (below, λ j. nobody j row, refl)
@@ -101,7 +94,7 @@ module _ (parties n : ℕ) where
       each = λ row k. ends-sound row (k .0);
     };
     scale = (refl, refl);
-    holds = λ j. rw (resting 16 j) tt;
+    holds = λ j. rw (repeat-at blank 16 j) tt;
     inside = λ j row held. absurd (nobody j row held);
     apart = λ i j row a b. absurd (nobody i row a);
     lost = λ row e. absurd (false≢true e);
@@ -119,11 +112,6 @@ module _ (parties n : ℕ) where
   fresh-neat = neat-start (λ row k r z. not-removed row (k .0) z)
 
 -- ---- the start
-
-zeros-at : (rows row : ℕ) → at (zeros rows) row ≡ 0
-zeros-at zero row = refl
-zeros-at (suc rows) zero = refl
-zeros-at (suc rows) (suc row) = zeros-at rows row
 
 module _ (t : Table) (parties : ℕ) (ok : setUpOf t parties .answer ≡ passed) where
   abbrev N : ℕ
@@ -160,13 +148,13 @@ module _ (t : Table) (parties : ℕ) (ok : setUpOf t parties .answer ≡ passed)
       inv = view .0;
       form = form;
       fits = fits;
-      small = λ row. rw (zeros-at N row) (omega arith);
+      small = λ row. rw (repeat-at {A = ℕ} 0 N row) (omega arith);
       sixteen = refl;
       count = refl;
       neat = view .1;
     };
-    idles = λ j. rw (resting 16 j);
-    none = λ j. rw (resting 16 j);
+    idles = λ j. rw (repeat-at blank 16 j);
+    none = λ j. rw (repeat-at blank 16 j);
     moves = refl;
     won = refl;
     lost = refl;

@@ -12,10 +12,10 @@ use lib.Seq.{getD-set-same, getD-set-other}
 use Rattle.columns.specs.Column.{put}
 use Rattle.rows.specs.Table.{Table, nextAt, backAt, link, withRow}
 use Rattle.rows.specs.Order.{rank, rankAt}
-use Rattle.party.specs.declared.Call.the-variants.{Add, Remove, Contains}
+use Rattle.party.specs.declared.Call.the-variants.{Add, Remove}
 use Rattle.party.specs.declared.Place.{Place}
 use Rattle.party.specs.declared.Party.{Party}
-use Rattle.party.specs.Party.{blank, idling, published, walking, skipping, adding, marking, rereading, cleaning, backing, looking}
+use Rattle.party.specs.Party.{blank, idling, published, adding, marking, cleaning}
 use Rattle.moves.specs.declared.Moved.{Moved}
 use Rattle.bare.specs.Bare.{Machine, partyOf, carried}
 use Rattle.form.proofs.Good.{Rows}

@@ -1,5 +1,5 @@
 -- What each event of a history is, and the counts made from that alone: no tally of the state is looked at.
-use mathlib.Core.List.{List, [], _∷_}
+use mathlib.Core.List.{[], _∷_}
 use mathlib.Core.Bool.{cond}
 use Prim.Native.Nat.{ℕ}
 use lib.Dec.{eqb}

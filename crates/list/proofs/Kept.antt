@@ -9,11 +9,11 @@ use Prim.Native.Nat.{ℕ, zero, suc, _+_, _<_, _≤_}
 use native.Mathlib.Decide.{decLt}
 use native.Mathlib.Omega.{arith}
 use lib.Dec.{eqb, ltb, leb}
-use lib.ListN.{length, getD, replicate}
+use lib.ListN.{length}
 use borrow.Author.Tests.{leb-true, leb-false, ltb-false, eqb-false, lt-ltb, le-ltb, le-leb, not-false}
 use Rattle.refusal.specs.Answer.{accepted, Left, left, Tests, passed, refusing, leaving}
 use Rattle.refusal.proofs.Laws.{past-test, change-past}
-use Rattle.columns.specs.Column.{at, zeros}
+use Rattle.columns.specs.Column.{zeros}
 use Rattle.columns.proofs.Every.{and-left, and-both}
 use Rattle.rows.specs.declared.Write.the-variants.{Item}
 use Rattle.rows.specs.Table.{Table}
@@ -33,7 +33,7 @@ use Rattle.bare.specs.Bare.{Machine, machine, partyOf, startOf, begunOf, starte
 use Rattle.form.specs.Form.{kindFits, keyFits, linkFits, isAdd, isRemove, isIdle, noneOrSpare, ownFits, recordFits, partyFits, rowsIn, goodForm}
 use Rattle.fresh.specs.Fresh.{freshTable, restingState}
 use Rattle.list.specs.Engine.{badParties, setUpTests, setUpOf, callNamed, noRow, callAsks, callTests, callOf, moveAsks, moveTests, accepting, moveOf}
-use Rattle.list.proofs.Laws.{neither, past-form, table-fits, past-set-up}
+use Rattle.list.proofs.Laws.{repeat-at, neither, past-form, table-fits, past-set-up}
 use Rattle.list.specs.Claims.{SetUpIsGood, BlankIsBad, CallKeeps, MoveKeeps}
 use Rattle.form.proofs.Good.{Each, Rows, Fits, fits, Good, good, good-form}
 use Rattle.list.proofs.Keeps.{row-keeps, item-fits, write-keeps, party-keeps, FitMove, move-fits}
@@ -49,11 +49,6 @@ kept-past P tests found changed value e h =
 
 -- ---- set-up
 
-zero-at : (rows row : ℕ) → at (zeros rows) row ≡ 0
-zero-at zero row = refl
-zero-at (suc rows) zero = refl
-zero-at (suc rows) (suc row) = zero-at rows row
-
 -- four entries, and zeros behind them
 four-and-zeros : (test : ℕ → ℕ → Bool) (a b c d rows : ℕ) → test 0 a ≡ true → test 1 b ≡ true → test 2 c ≡ true → test 3 d ≡ true →
     ((row : ℕ) → 4 ≤ row → test row 0 ≡ true) → Each test (a ∷ b ∷ c ∷ d ∷ zeros rows)
@@ -61,7 +56,7 @@ four-and-zeros test a b c d rows ha hb hc hd h zero below = ha
 four-and-zeros test a b c d rows ha hb hc hd h (suc zero) below = hb
 four-and-zeros test a b c d rows ha hb hc hd h (suc (suc zero)) below = hc
 four-and-zeros test a b c d rows ha hb hc hd h (suc (suc (suc zero))) below = hd
-four-and-zeros test a b c d rows ha hb hc hd h (suc (suc (suc (suc row)))) below = rw (zero-at rows row) (h (suc (suc (suc (suc row)))) (omega arith))
+four-and-zeros test a b c d rows ha hb hc hd h (suc (suc (suc (suc row)))) below = rw (repeat-at {A = ℕ} 0 rows row) (h (suc (suc (suc (suc row)))) (omega arith))
 
 fresh-rows : (rows : ℕ) → 4 ≤ rows → Rows 4 (freshTable rows)
 fresh-rows zero enough = absurd (omega arith)
@@ -81,11 +76,6 @@ fresh-rows (suc (suc (suc (suc rows)))) enough =
       backs = four-and-zeros (linkFits 4) 0 0 0 0 rows refl refl refl refl (λ row past. rw (le-ltb row 4 past));
     }
 
-blank-at : (parties i : ℕ) → getD (replicate parties blank) i blank ≡ blank
-blank-at zero i = refl
-blank-at (suc parties) zero = refl
-blank-at (suc parties) (suc i) = blank-at parties i
-
 blank-fits : (count i : ℕ) → partyFits 4 count i blank ≡ true
 unfolding recordFits
 blank-fits count i = or-true (ltb i count)
@@ -98,7 +88,7 @@ fresh-good rows parties enough fair =
       rows = fresh-rows rows enough;
       some = omega arith;
       few = ltb-false 16 parties (apart .1);
-      parties = λ i small. rw (blank-at 16 i) (blank-fits parties i);
+      parties = λ i small. rw (repeat-at blank 16 i) (blank-fits parties i);
       tallies = omega arith;
       spent = omega arith;
     }

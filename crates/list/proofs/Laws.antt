@@ -5,7 +5,7 @@ use mathlib.Core.Bool.{Bool, true, false, not, true≢false, _||_, _&&_}
 use mathlib.Core.List.{List}
 use Prim.Native.Nat.{ℕ, zero, suc, _≤_}
 use native.Mathlib.Nat.{zero-add}
-use lib.ListN.{length}
+use lib.ListN.{length, getD, replicate}
 use lib.Seq.{sets, sets-eq}
 use lib.Dec.{eqb, ltb, leb}
 use borrow.Author.Tests.{ltb-false, leb-true, eqb-true, not-false}
@@ -27,6 +27,12 @@ use Rattle.form.proofs.Good.{two}
 use Rattle.form.specs.Form.{rowsIn, goodForm}
 use Rattle.fresh.specs.Fresh.{ends, freshTable, restingState}
 use Rattle.list.specs.Engine.{badTable, formTests, badParties, setUpTests, setUpOf, callNamed, callAsks, callTests, callOf, moveAsks, moveTests, accepting, moveOf, chainRises, liveKeys, listTests, placesWith, listOf}
+
+-- what is repeated stands everywhere
+pub repeat-at : {A : Type 0} (a : A) (count j : ℕ) → getD (replicate count a) j a ≡ a
+repeat-at a zero j = refl
+repeat-at a (suc count) zero = refl
+repeat-at a (suc count) (suc j) = repeat-at a count j
 
 -- every code past 1 names CONTAINS
 pub past-remove : (code : ℕ) → (code ≡ 0 → ⊥) → (code ≡ 1 → ⊥) → Contains ≡ callNamed code

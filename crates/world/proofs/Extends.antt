@@ -1,8 +1,7 @@
 -- Every write extends the world, and work on a row that is not published changes nothing that others see.
 -- Assumes nothing.
-use Prim.Native.Nat.{ℕ, zero, suc, _≤_, _<_}
-use mathlib.Core.Path.{_≡_, refl, sym, ap, subst, _∙_}
-use mathlib.Core.Logic.{_⊎_, inl, inr, _≢_}
+use Prim.Native.Nat.{ℕ}
+use mathlib.Core.Path.{_≡_, refl, sym, subst}
 use native.Mathlib.Omega.{arith}
 use Rattle.world.specs.Extends.{Extends, Same}
 use Rattle.world.specs.Live.{Effect, Live, still}

@@ -1,8 +1,8 @@
 -- What MARK and a swing do to the live ranks: exactly one goes, exactly one comes, or none changes.
 -- Assumes nothing.
-use Prim.Native.Nat.{ℕ, zero, suc, _≤_, _<_}
-use mathlib.Core.Path.{_≡_, refl, sym, ap, subst, _∙_}
-use mathlib.Core.Logic.{_⊎_, inl, inr, ⊎-elim, _≢_, _↔_}
+use Prim.Native.Nat.{ℕ}
+use mathlib.Core.Path.{_≡_, refl, sym, ap, _∙_}
+use mathlib.Core.Logic.{_⊎_, inl, inr, ⊎-elim, _≢_}
 use native.Mathlib.Omega.{arith}
 use Rattle.world.specs.Live.{Effect, Live, gain, lose, still}
 use Rattle.world.specs.World.{Good, Open, World}

@@ -1,7 +1,7 @@
 -- Sums in which one part changes.
 -- Assumes nothing.
 use Prim.Native.Nat.{ℕ, zero, suc, _+_, _*_, _≤_, _<_}
-use mathlib.Core.Path.{_≡_, refl, sym, ap}
+use mathlib.Core.Path.{_≡_, refl, ap}
 use mathlib.Core.Logic.{_≢_}
 use native.Mathlib.Omega.{arith}
 use Rattle.world.specs.Sum.{sum}

@@ -1,5 +1,5 @@
 -- The writes to the next of a published row: MARK, and the swing of ADDSWAP and of CLEAN.
-use Prim.Native.Nat.{ℕ, _≤_, _<_}
+use Prim.Native.Nat.{ℕ, _<_}
 use mathlib.Core.Path.{_≡_}
 use mathlib.Core.Logic.{_⊎_, _≢_}
 use Rattle.world.specs.World.{World, Open, Chunk, Row}
