@@ -104,9 +104,6 @@ module _ {w w′ : World} (g : Good w) (t : Same w w′) where
     came = λ y q r. same-back (g .one .known) r;
   }
 
-pub same-refl : {w : World} → Same w w
-same-refl = record { known = λ x p. p; only = λ x p. p; rank = λ x p. refl; next = λ x p. refl; back = λ x p. refl }
-
 pub same-sym : {w w′ : World} → Same w w′ → Same w′ w
 same-sym t = record { known = t .only; only = t .known; rank = λ x p. sym (t .rank x (t .only x p)); next = λ x p. sym (t .next x (t .only x p)); back = λ x p. sym (t .back x (t .only x p)) }
 
