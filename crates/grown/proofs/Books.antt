@@ -102,7 +102,8 @@ module _ (w : World) (g : Good w) (f : ℕ → ℕ) (cell won : ℕ) (but : (y :
   two : (p n c s : ℕ) → w .Pub p → w .Pub c → w .rank p < w .rank c → miss (f p) n + miss (f c) s ≤ miss (w .next p) n + miss (w .next c) s + won
   two p n c s hp hc l = go (but p hp) (but c hc)
     where
-      go : (f p ≡ w .next p) ⊎ ((p ≡ cell) × (won ≡ 1)) → (f c ≡ w .next c) ⊎ ((c ≡ cell) × (won ≡ 1)) → miss (f p) n + miss (f c) s ≤ miss (w .next p) n + miss (w .next c) s + won
+      go : (f p ≡ w .next p) ⊎ ((p ≡ cell) × (won ≡ 1)) → (f c ≡ w .next c) ⊎ ((c ≡ cell) × (won ≡ 1)) →
+          miss (f p) n + miss (f c) s ≤ miss (w .next p) n + miss (w .next c) s + won
       go (inl a) (inl b) = rw (a, b) (omega arith)
       go (inl a) (inr b) = rw a (omega (arith, b .1, miss-le (f c) s))
       go (inr a) (inl b) = rw b (omega (arith, a .1, miss-le (f p) n))
@@ -170,9 +171,18 @@ module _ (orphan : ℕ → Bool) (m : Machine) (v : Inv (viewOf orphan m)) (i : 
 
   -- nothing written that others can see, nothing published
   goes : (l : Place) (q′ : Party) (write : Write) → NoItem write → ((y : ℕ) → w .Pub y → nextAt (written write t) y ≡ nextAt t y)
-      → stale (λ row. nextAt (written write t) row) q′ (q′ .place) ≤ stale (λ row. nextAt t row) q l → owes (q′ .place) (q′ .unpublished) ≤ owes l (q .unpublished) → q′ .unpublished ≡ q .unpublished
+      → stale (λ row. nextAt (written write t) row) q′ (q′ .place) ≤ stale (λ row. nextAt t row) q l →
+      owes (q′ .place) (q′ .unpublished) ≤ owes l (q .unpublished) → q′ .unpublished ≡ q .unpublished
       → Books l (reads q′ write) read
-  goes l q′ write plain a b c e = record { access = refl; plain = plain; mine = omega arith; pays = omega arith; held = rw e (omega arith); cell = 0; but = λ y k. inl (a y k) }
+  goes l q′ write plain a b c e = record {
+    access = refl;
+    plain = plain;
+    mine = omega arith;
+    pays = omega arith;
+    held = rw e (omega arith);
+    cell = 0;
+    but = λ y k. inl (a y k);
+  }
 
   walks : (l : Place) (q′ : Party) → stale (λ row. nextAt t row) q′ (q′ .place) ≤ stale (λ row. nextAt t row) q l
       → owes (q′ .place) (q′ .unpublished) ≤ owes l (q .unpublished) → q′ .unpublished ≡ q .unpublished → Books l (reads q′ Keep) read
@@ -210,7 +220,8 @@ module _ (orphan : ℕ → Bool) (m : Machine) (v : Inv (viewOf orphan m)) (i : 
       (rw (own-off (q .c) (q .p) f (W .behind .row .known)) b) (omega arith) refl
 
   -- a party that comes to MARK has just read s
-  readies : (l : Place) (k : ℕ) (write : Write) → NoItem write → Walking w (3 + k) (q .p) (q .n) (q .c) → ((y : ℕ) → w .Pub y → nextAt (written write t) y ≡ nextAt t y) →
+  readies : (l : Place) (k : ℕ) (write : Write) → NoItem write → Walking w (3 + k) (q .p) (q .n) (q .c) →
+      ((y : ℕ) → w .Pub y → nextAt (written write t) y ≡ nextAt t y) →
       miss (w .next (q .p)) (q .n) ≤ stale (w .next) q l → oneIf (not (q .unpublished)) ≤ owes l (q .unpublished) →
       Books l (reads (marking q Remove k (q .p) (q .n) (q .c) (nextAt t (q .c))) write) read
   readies l k write plain W e b c = goes l (marking q Remove k (q .p) (q .n) (q .c) (nextAt t (q .c))) write plain e
@@ -241,13 +252,16 @@ module _ (orphan : ℕ → Bool) (m : Machine) (v : Inv (viewOf orphan m)) (i : 
   does-booked (add-loses {k} n) a = fails (AddSwap Add k) (backing q Add k (q .p)) (omega (arith, bound (w .next (q .p)) (q .n) n)) (le-refl _) refl
   does-booked (mark-wins {k} d) a = made (Mark Remove k) (cleaning (published q) Remove k (q .p) (q .n) (q .s)) _ (q .c) (q .own) (marked k) refl refl refl
       (rw (getD-set-other (t .next) (q .c) (q .p) (q .own) 0 (λ d. omega (arith, ap (w .rank) d, a .0 .behind .low, a .1))) (omega arith)) (omega arith) (rw (a .2 .hidden))
-  does-booked (mark-loses {k} n) a = fails (Mark Remove k) (rereading q Remove k (q .p) (q .n) (q .c)) (omega (arith, bound (w .next (q .c)) (q .s) n)) (le-refl _) refl
+  does-booked (mark-loses {k} n) a =
+      fails (Mark Remove k) (rereading q Remove k (q .p) (q .n) (q .c)) (omega (arith, bound (w .next (q .c)) (q .s) n)) (le-refl _) refl
   does-booked (rereads-late k) a = says _ _
   does-booked (rereads {k} o) a = readies (Reread Remove k) k _ tt (a .0) (λ y n. own-off _ y (a .2 .hidden) n) (le-refl _) (le-refl _)
-  does-booked (clean-wins {k} d) a = made (Clean Remove k) (idling q) _ _ _ cleaned refl refl refl (omega arith) (rw (a .2 .shown) (omega arith)) (omega arith)
+  does-booked (clean-wins {k} d) a =
+      made (Clean Remove k) (idling q) _ _ _ cleaned refl refl refl (omega arith) (rw (a .2 .shown) (omega arith)) (omega arith)
   does-booked (clean-loses {k} n) a = fails (Clean Remove k) (backing q Remove k (q .p)) (omega (arith, bound (w .next (q .p)) (q .n) n)) (le-refl _) refl
   does-booked (backs {call} {k} M) a = walks (Back call k) _ (omega arith) (le-refl _) refl
-  does-booked (back-ends {call} {k} o) a = walks (Back call k) (walking q call k (q .p) (nextAt t (q .p)) (nextAt t (q .p))) (omega (arith, same (q .p))) (le-refl _) refl
+  does-booked (back-ends {call} {k} o) a =
+      walks (Back call k) (walking q call k (q .p) (nextAt t (q .p)) (nextAt t (q .p))) (omega (arith, same (q .p))) (le-refl _) refl
   does-booked (look-passes {k} b M) a = walks (Look Contains k) _ (omega arith) (le-refl _) refl
   does-booked (look-steps {k} b o) a = walks (Look Contains k) _ (omega arith) (le-refl _) refl
   does-booked (look-other b n) a = says _ _

@@ -81,16 +81,19 @@ module _ (t : Table) (q : Party) where
   s = nextAt t (q .c)
 
   pub data Does : Place → Moved → Deed → Type 0 where
-    passes : {call : Call} {k : ℕ} → rankAt t (q .c) < 3 + k → Removed t (q .c) → Does (Walk call k) (reads (walking q call k (q .p) (q .n) (nextAt t s)) Keep) read
+    passes : {call : Call} {k : ℕ} → rankAt t (q .c) < 3 + k → Removed t (q .c) →
+        Does (Walk call k) (reads (walking q call k (q .p) (q .n) (nextAt t s)) Keep) read
     steps : {call : Call} {k : ℕ} → rankAt t (q .c) < 3 + k → Standing t (q .c) → Does (Walk call k) (reads (walking q call k (q .c) s s) Keep) read
     add-skips : {k : ℕ} → 3 + k ≤ rankAt t (q .c) → Removed t (q .c) → Does (Walk Add k) (reads (skipping q Add k (q .p) (q .n) (nextAt t s)) Keep) read
     add-finds : {k : ℕ} → rankAt t (q .c) ≡ 3 + k → Standing t (q .c) → Does (Walk Add k) (answers q No) read
-    add-ready : {k : ℕ} → 3 + k ≤ rankAt t (q .c) → rankAt t (q .c) ≢ 3 + k → Does (Walk Add k) (reads (adding q Add k (q .p) (q .n)) (Link (q .own) (q .c))) read
+    add-ready : {k : ℕ} → 3 + k ≤ rankAt t (q .c) → rankAt t (q .c) ≢ 3 + k →
+        Does (Walk Add k) (reads (adding q Add k (q .p) (q .n)) (Link (q .own) (q .c))) read
     cut-other : {k : ℕ} → q .unpublished ≡ true → 3 + k ≤ rankAt t (q .c) → rankAt t (q .c) ≢ 3 + k → Does (Walk Remove k) (answers q No) read
     cut-late : {k : ℕ} → q .unpublished ≡ true → rankAt t (q .c) ≡ 3 + k → Removed t (q .c) → Does (Walk Remove k) (answers q No) read
     cut-ready : {k : ℕ} → q .unpublished ≡ true → rankAt t (q .c) ≡ 3 + k → Standing t (q .c) →
         Does (Walk Remove k) (reads (marking q Remove k (q .p) (q .n) (q .c) s) (Splice (q .own) s (q .p))) read
-    cut-again : {k : ℕ} → q .unpublished ≡ false → 3 + k ≤ rankAt t (q .c) → s ≡ q .own → Does (Walk Remove k) (reads (cleaning q Remove k (q .p) (q .n) (q .r)) Keep) read
+    cut-again : {k : ℕ} → q .unpublished ≡ false → 3 + k ≤ rankAt t (q .c) → s ≡ q .own →
+        Does (Walk Remove k) (reads (cleaning q Remove k (q .p) (q .n) (q .r)) Keep) read
     cut-done : {k : ℕ} → q .unpublished ≡ false → 3 + k ≤ rankAt t (q .c) → s ≢ q .own → Does (Walk Remove k) (answers q Yes) read
     skips : {k : ℕ} → Removed t (q .c) → Does (Skip Add k) (reads (skipping q Add k (q .p) (q .n) (nextAt t s)) Keep) read
     skip-ends : {k : ℕ} → Standing t (q .c) → Does (Skip Add k) (reads (adding q Add k (q .p) (q .n)) (Link (q .own) (q .c))) read
@@ -168,7 +171,8 @@ module _ (t : Table) (q : Party) where
       (λ e. look-other l (other k e))
 
   -- a swap is won or lost by the same test that names the deed
-  swap : {l : Place} {won back : Moved} {deed : Deed} (row expected : ℕ) → (nextAt t row ≡ expected → Does l won deed) → (nextAt t row ≢ expected → Does l back lost) →
+  swap : {l : Place} {won back : Moved} {deed : Deed} (row expected : ℕ) → (nextAt t row ≡ expected → Does l won deed) →
+      (nextAt t row ≢ expected → Does l back lost) →
       Does l (cond (eqb (nextAt t row) expected) won back) (cond (eqb (nextAt t row) expected) deed lost)
   swap {l} {won} {back} {deed} row expected f g = by-test (λ b. Does l (cond b won back) (cond b deed lost)) (eqb (nextAt t row) expected)
       (λ e. f (eqb-true (nextAt t row) expected e)) (λ e. g (eqb-false (nextAt t row) expected e))

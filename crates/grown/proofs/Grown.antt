@@ -133,7 +133,8 @@ module _ (orphan : ℕ → Bool) (parties : ℕ) where
   pub healthy-along : (history : History) (m : Machine) → Healthy orphan parties m → Accepted m history → Healthy orphan parties (run m history)
   healthy-along history m s ok = along (Healthy orphan parties) (λ m event s e. healthy-turn orphan parties m event s e) history m s ok
 
-  pub balanced-along : (taken : ℕ) (history : History) (m : Machine) (c : Counts) → Healthy orphan parties m → Balanced parties taken m c → Accepted m history →
+  pub balanced-along : (taken : ℕ) (history : History) (m : Machine) (c : Counts) → Healthy orphan parties m → Balanced parties taken m c →
+      Accepted m history →
       Balanced parties taken (run m history) (plus c (countsOf m history))
   unfolding run acceptsAll countsOf
   balanced-along taken [] m c s k ok = rw (plus-none c) k

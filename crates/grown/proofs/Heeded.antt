@@ -16,11 +16,13 @@ use Rattle.grown.specs.Demands.{Heeded}
 use Rattle.grown.proofs.Does.{by-test}
 
 -- an answer that is not accepted is a refusal
-call-stays : (m : Machine) (answer : Tests) (after : Machine) → ((number : ℕ) → answer ≡ refused number → after ≡ m) → isAccepted (quiet answer) ≡ false → after ≡ m
+call-stays : (m : Machine) (answer : Tests) (after : Machine) → ((number : ℕ) → answer ≡ refused number → after ≡ m) →
+    isAccepted (quiet answer) ≡ false → after ≡ m
 call-stays m (accepted done) after leaves e = absurd (true≢false e)
 call-stays m (refused number) after leaves e = leaves number refl
 
-move-stays : (m : Machine) (answer : Answer Said) (after : Machine) → ((number : ℕ) → answer ≡ refused number → after ≡ m) → isAccepted answer ≡ false → after ≡ m
+move-stays : (m : Machine) (answer : Answer Said) (after : Machine) → ((number : ℕ) → answer ≡ refused number → after ≡ m) →
+    isAccepted answer ≡ false → after ≡ m
 move-stays m (accepted said) after leaves e = absurd (true≢false e)
 move-stays m (refused number) after leaves e = leaves number refl
 
@@ -29,7 +31,8 @@ second-fails true b h e = e
 second-fails false b h e = absurd (true≢false (sym h))
 
 stays : (m : Machine) (event : Event) → keyFits event ≡ true → accepts m event ≡ false → turnOf m event .memory ≡ m
-stays m (calls i code key) fits e = call-stays m (callOf m i code key .answer) (callOf m i code key .memory) (λ number is. refused-call-leaves m i code key number is)
+stays m (calls i code key) fits e =
+    call-stays m (callOf m i code key .answer) (callOf m i code key .memory) (λ number is. refused-call-leaves m i code key number is)
     (second-fails (keyFits (calls i code key)) (isAccepted (quiet (callOf m i code key .answer))) fits e)
 stays m (moves i) fits e = move-stays m (moveOf m i .answer) (moveOf m i .memory) (λ number is. refused-move-leaves m i number is) e
 

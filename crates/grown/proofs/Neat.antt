@@ -150,7 +150,8 @@ module _ (orphan : ℕ → Bool) (m : Machine) where
       does-cares : {l : Place} {moved : Moved} {deed : Deed} (x : ℕ) → Does t q l moved deed → At w q l → w .Pub x → Reach w x 1 →
           Reach (worldOf orphan (carried m i moved .after)) x 1 → q .own ≡ w .next x → Tends w q x l → Cares w (moved .party) x
       does-cares x (passes b M) a p r s o (at-walk e f ρ c) = (o, at-walk e f (at-c g (walk-past g (a .0) M) .0) (rw M at (track-on g e c b)))
-      does-cares x (steps b u) a p r s o (at-walk e f ρ c) = (o, at-walk e f (at-c g (walk-on g (a .0) b u) .0) (rw (succ-open w (q .c) u) at (track-on g e c b)))
+      does-cares x (steps b u) a p r s o (at-walk e f ρ c) =
+          (o, at-walk e f (at-c g (walk-on g (a .0) b u) .0) (rw (succ-open w (q .c) u) at (track-on g e c b)))
       does-cares x (cut-other f b n) a p r s o (at-walk e u ρ c) = absurd (true≢false (sym f ∙ u))
       does-cares x (cut-late f b M) a p r s o (at-walk e u ρ c) = absurd (true≢false (sym f ∙ u))
       does-cares x (cut-ready f b n) a p r s o (at-walk e u ρ c) = absurd (true≢false (sym f ∙ u))
@@ -174,9 +175,11 @@ module _ (orphan : ℕ → Bool) (m : Machine) where
 
       -- the record that a move leaves to its party
       party-after : (moved : Moved) → partyOf (carried m i moved .after) i ≡ moved .party
-      party-after moved = rw (same-parties (moved .access) (withParty (m .state) i (moved .party))) (getD-set-same (m .state .parties) i (moved .party) blank h)
+      party-after moved =
+          rw (same-parties (moved .access) (withParty (m .state) i (moved .party))) (getD-set-same (m .state .parties) i (moved .party) blank h)
 
-      moved-neatly : {moved : Moved} {deed : Deed} → Does t q (q .place) moved deed → Neatly (viewOf orphan m) (viewOf orphan (carried m i moved .after)) i (changeOf deed (q .own))
+      moved-neatly : {moved : Moved} {deed : Deed} → Does t q (q .place) moved deed →
+          Neatly (viewOf orphan m) (viewOf orphan (carried m i moved .after)) i (changeOf deed (q .own))
       moved-neatly {moved} {deed} d = record {
         keeps = λ x p r s c. rw (party-after moved) (does-cares x d (v .holds i) p r s (c .0) (c .1));
         fresh = rw (party-after moved) (does-takes deed _ d);
@@ -206,7 +209,8 @@ module _ (orphan : ℕ → Bool) (m : Machine) where
       -- removed rows rank below row 2
       stands : (row : ℕ) → Follows row → Open w row
       stands row a =
-          let k : w .rank (w .next row) ≢ 0 = λ e. at-rest orphan m neat idle row (a .0 .known) (a .1 (g .each row (a .0 .known) .gone e .high)) e in omega (arith, k)
+          let k : w .rank (w .next row) ≢ 0 =
+          λ e. at-rest orphan m neat idle row (a .0 .known) (a .1 (g .each row (a .0 .known) .gone e .high)) e in omega (arith, k)
 
       next-follows : (row : ℕ) → Follows row → Dec (w .rank row < w .rank 2) → Follows (succ w row)
       next-follows row a (yes l) = (row-succ g (a .0) l, λ b. reach-snoc l (a .1 l))

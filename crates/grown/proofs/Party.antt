@@ -113,7 +113,12 @@ module _ {w w′ : World} (g : Good w) (t : Extends w w′) (q : Party) (own : (
   knife-ext h = record { hidden = h .hidden; is = rw (kept (h .hidden) .rank) (h .is); behind = rw (kept (h .hidden) .back) (h .behind) }
 
   done-ext : {r : ℕ} → Done w (q .own) (q .unpublished) r → Done w′ (q .own) (q .unpublished) r
-  done-ext h = record { shown = h .shown; known = t .known _ (h .known); is = rw (t .rank _ (h .known)) (h .is); nxt = t .splice _ (h .known) (h .is) .0 ∙ h .nxt }
+  done-ext h = record {
+    shown = h .shown;
+    known = t .known _ (h .known);
+    is = rw (t .rank _ (h .known)) (h .is);
+    nxt = t .splice _ (h .known) (h .is) .0 ∙ h .nxt;
+  }
 
   mine-ext : (call : Call) (K : ℕ) → Mine w call (q .own) (q .unpublished) (q .r) K → Mine w′ call (q .own) (q .unpublished) (q .r) K
   mine-ext Add K h = item-ext h

@@ -113,7 +113,8 @@ module _ (orphan : ℕ → Bool) (m : Machine) (v : Inv (viewOf orphan m)) (z : 
       (λ x d. rw e (b x d)) (λ x c d. absurd (omega arith)) (λ x d. k x (λ c. d (rw e (b x c)))) (λ t. rw e (mine t))
 
   -- only the party changes
-  pub read : (q′ : Party) → ((x : ℕ) → Holds q′ x → Holds q x) → ((x : ℕ) → Holds q x → Holds q′ x) → At w q′ (q′ .place) → Steady (viewOf orphan m) (became (m .table) q′) still
+  pub read : (q′ : Party) → ((x : ℕ) → Holds q′ x → Holds q x) → ((x : ℕ) → Holds q x → Holds q′ x) → At w q′ (q′ .place) →
+      Steady (viewOf orphan m) (became (m .table) q′) still
   read q′ a b d = quiet (m .table) q′ a b (λ x n. record { rank = refl; next = refl; back = refl })
       (λ t. at-ext g t q′ (λ x n. record { rank = refl; next = refl; back = refl }) (q′ .place) d)
 
@@ -136,7 +137,8 @@ module _ (orphan : ℕ → Bool) (m : Machine) (v : Inv (viewOf orphan m)) (z : 
   prepared : (k : ℕ) → Walking w (3 + k) (q .p) (q .n) (q .c) → 3 + k < w .rank (q .c) → Item w (q .own) (q .unpublished) (3 + k)
       → Steady (viewOf orphan m) (became (link (m .table) (q .own) (q .c)) (adding q Add k (q .p) (q .n))) still
   prepared k W b I =
-      let e : nextAt (link (m .table) (q .own) (q .c)) (q .own) ≡ q .c = getD-set-same (m .table .next) (q .own) (q .c) 0 (omega (arith, own-in (I .hidden), z)) in
+      let e : nextAt (link (m .table) (q .own) (q .c)) (q .own) ≡ q .c =
+      getD-set-same (m .table .next) (q .own) (q .c) 0 (omega (arith, own-in (I .hidden), z)) in
       quiet (link (m .table) (q .own) (q .c)) (adding q Add k (q .p) (q .n)) (λ x d. d) (λ x d. d)
       (λ x n. record { rank = refl; next = getD-set-other (m .table .next) (q .own) x (q .c) 0 (λ d. n (I .hidden, sym d)); back = refl })
       (λ t. rw e (walking-ext g t W, b, record { hidden = I .hidden; is = I .is }))
@@ -221,8 +223,10 @@ module _ (orphan : ℕ → Bool) (m : Machine) (v : Inv (viewOf orphan m)) (z : 
     clean-won : Steady (viewOf orphan m) (became (link (m .table) (q .p) (q .r)) (idling q)) still
     clean-won = inv-clean v clean-win clean-swings (rw (now (idling q)) tt)
 
-  mark-won : (k : ℕ) → Walking w (3 + k) (q .p) (q .n) (q .c) → w .rank (q .c) ≡ 3 + k → Knife w (q .own) (q .unpublished) (q .p) → w .next (q .own) ≡ q .s → Row w (q .s)
-      → w .next (q .c) ≡ q .s → Steady (viewOf orphan m) (became (link (m .table) (q .c) (q .own)) (cleaning (published q) Remove k (q .p) (q .n) (q .s))) (lose (3 + k) (q .own))
+  mark-won : (k : ℕ) → Walking w (3 + k) (q .p) (q .n) (q .c) → w .rank (q .c) ≡ 3 + k → Knife w (q .own) (q .unpublished) (q .p) →
+      w .next (q .own) ≡ q .s → Row w (q .s)
+      → w .next (q .c) ≡ q .s →
+      Steady (viewOf orphan m) (became (link (m .table) (q .c) (q .own)) (cleaning (published q) Remove k (q .p) (q .n) (q .s))) (lose (3 + k) (q .own))
   mark-won k W b N n ρ e =
       let q′ = cleaning (published q) Remove k (q .p) (q .n) (q .s) in
       let r = at-c g W .0 in
@@ -241,7 +245,8 @@ module _ (orphan : ℕ → Bool) (m : Machine) (v : Inv (viewOf orphan m)) (z : 
 
   -- a REMOVE that has marked finds its row again
   found : (k : ℕ) → Walking w (3 + k) (q .p) (q .n) (q .c) → 3 + k ≤ w .rank (q .c) → q .unpublished ≡ false → w .next (q .c) ≡ q .own
-      → Item w (q .own) (q .unpublished) (3 + k) ⊎ Done w (q .own) (q .unpublished) (q .r) → Steady (viewOf orphan m) (became (m .table) (cleaning q Remove k (q .p) (q .n) (q .r))) still
+      → Item w (q .own) (q .unpublished) (3 + k) ⊎ Done w (q .own) (q .unpublished) (q .r) →
+      Steady (viewOf orphan m) (became (m .table) (cleaning q Remove k (q .p) (q .n) (q .r))) still
   found k W b f e (inl I) = absurd (true≢false (sym (I .hidden) ∙ f))
   found k W b f e (inr D) =
       let M : Marked w (q .c) = rw e (D .is) in

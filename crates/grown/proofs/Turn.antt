@@ -160,7 +160,8 @@ start-owes Add key = refl
 start-owes Remove key = refl
 start-owes Contains key = refl
 
-start-at : (w : World) (call : Call) (key own : ℕ) → isContains call ≡ false → Walking w (3 + key) 0 1 1 → w .rank own ≡ 3 + key → At w (starting call key own) (Walk call key)
+start-at : (w : World) (call : Call) (key own : ℕ) → isContains call ≡ false → Walking w (3 + key) 0 1 1 → w .rank own ≡ 3 + key →
+    At w (starting call key own) (Walk call key)
 start-at w Add key own is W e = (W, record { hidden = refl; is = e })
 start-at w Remove key own is W e = (W, inl (record { hidden = refl; is = e }))
 start-at w Contains key own is W e = absurd (true≢false is)
@@ -286,5 +287,6 @@ module _ (orphan : ℕ → Bool) (m : Machine) (v : Inv (viewOf orphan m)) (z : 
       moved-on _ _ a b c (does-booked orphan m v i it (v .holds i)) (does-steady orphan m v z i h it (v .holds i))
   turned a b c (spares call key is fits idle f) =
       called-with (partyOf m i .own) T call key fits (λ k. k .1 i (f, refl)) idle (rw f (omega arith)) (call-spare call key is fits f)
-  turned a b c (takes call key is fits idle f room) = called-with T (T + 1) call key fits (λ k. omega (arith, k .0)) idle (rw f (omega arith)) (call-take call key is fits f room)
+  turned a b c (takes call key is fits idle f room) =
+      called-with T (T + 1) call key fits (λ k. omega (arith, k .0)) idle (rw f (omega arith)) (call-take call key is fits f room)
   turned a b c (asks key fits idle) = asked key fits idle

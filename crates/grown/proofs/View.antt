@@ -64,7 +64,8 @@ pub record Steady (σ σ′ : View) (d : Change) : Type 0 where
   pub ext : Extends (world σ) (world σ′)
   pub live : Effect (world σ) (world σ′) d
   -- a row that is newly removed is so by the splice that took its rank
-  pub marks : (x : ℕ) → world σ′ .Pub x → Marked (world σ′) x → (world σ .Pub x × Marked (world σ) x) ⊎ ((d ≡ lose (σ′ .rank x) (σ′ .next x)) × (world σ .Pub (σ′ .next x) → ⊥))
+  pub marks : (x : ℕ) → world σ′ .Pub x → Marked (world σ′) x →
+      (world σ .Pub x × Marked (world σ) x) ⊎ ((d ≡ lose (σ′ .rank x) (σ′ .next x)) × (world σ .Pub (σ′ .next x) → ⊥))
   -- a row that is newly published is a splice, or the item gained
   pub news : (y : ℕ) → world σ′ .Pub y → 0 < σ′ .rank y → world σ .Pub y ⊎ (d ≡ gain (σ′ .rank y))
 
@@ -72,7 +73,14 @@ module _ {σ σ′ : View} (v : Inv σ) (i : ℕ) (m : Moves σ σ′ i) where
   -- what is left to show of a move
   pub inv-move : Good (world σ′) → Extends (world σ) (world σ′) → ((j x : ℕ) → j ≢ i → Holds (σ .party j) x → Keeps (world σ) (world σ′) x)
       → At (world σ′) (σ′ .party i) (σ′ .party i .place) → Inv σ′
-  inv-move g t keep mine = record { good = g; scale = (t .rank 1 (v .good .one .known) ∙ v .scale .0, t .rank 2 (v .good .two .known) ∙ v .scale .1); holds = holds; inside = inside; apart = apart; lost = lost }
+  inv-move g t keep mine = record {
+    good = g;
+    scale = (t .rank 1 (v .good .one .known) ∙ v .scale .0, t .rank 2 (v .good .two .known) ∙ v .scale .1);
+    holds = holds;
+    inside = inside;
+    apart = apart;
+    lost = lost;
+  }
     where
       holds : (j : ℕ) → At (world σ′) (σ′ .party j) (σ′ .party j .place)
       holds j = by-row j i (λ e. rw e mine) (λ n. rw (m .others j n) (at-ext (v .good) t (σ .party j) (λ x h. keep j x n h) (σ .party j .place) (v .holds j)))
@@ -90,7 +98,8 @@ module _ {σ σ′ : View} (v : Inv σ) (i : ℕ) (m : Moves σ σ′ i) where
       apart : (k j x : ℕ) → Holds (σ′ .party k) x → Holds (σ′ .party j) x → k ≡ j
       apart k j x a b = go (was k x a) (was j x b)
         where
-          go : Holds (σ .party k) x ⊎ ((k ≡ i) × (x ≡ σ .taken) × (σ .taken < σ′ .taken)) → Holds (σ .party j) x ⊎ ((j ≡ i) × (x ≡ σ .taken) × (σ .taken < σ′ .taken)) → k ≡ j
+          go : Holds (σ .party k) x ⊎ ((k ≡ i) × (x ≡ σ .taken) × (σ .taken < σ′ .taken)) →
+              Holds (σ .party j) x ⊎ ((j ≡ i) × (x ≡ σ .taken) × (σ .taken < σ′ .taken)) → k ≡ j
           go (inl c) (inl d) = v .apart k j x c d
           go (inl c) (inr d) = absurd (omega (arith, v .inside k x c, d .1))
           go (inr c) (inl d) = absurd (omega (arith, v .inside j x d, c .1))
@@ -169,7 +178,8 @@ module _ {σ : View} {i p u : ℕ} {f : ℕ → ℕ} {ps : ℕ → Party} (v : I
   won-keep : (j x : ℕ) → j ≢ i → Holds (σ .party j) x → Keeps (world σ) (world (swapped σ f ps)) x
   won-keep j x n h = record { rank = refl; next = s .off x (λ e. s .row .known .1 j (rw e at h)); back = refl }
 
-  pub inv-mark : Mark (world σ) f (Known (σ .orphan) (σ .taken) ps) p u → At (world (swapped σ f ps)) (ps i) (ps i .place) → Steady σ (swapped σ f ps) (lose (σ .rank p) u)
+  pub inv-mark : Mark (world σ) f (Known (σ .orphan) (σ .taken) ps) p u → At (world (swapped σ f ps)) (ps i) (ps i .place) →
+      Steady σ (swapped σ f ps) (lose (σ .rank p) u)
   inv-mark m mine = let t = mark-ext (v .good) m in record {
     inv = inv-move v i won-moves (mark-good (v .good) m) t won-keep mine;
     ext = t;
@@ -178,12 +188,14 @@ module _ {σ : View} {i p u : ℕ} {f : ℕ → ℕ} {ps : ℕ → Party} (v : I
     marks = λ x h k. marked x k (m .new x h);
   }
     where
-      marked : (x : ℕ) → Marked (world (swapped σ f ps)) x → world σ .Pub x ⊎ (x ≡ u) → (world σ .Pub x × Marked (world σ) x) ⊎ ((lose (σ .rank p) u ≡ lose (σ .rank x) (f x)) × (world σ .Pub (f x) → ⊥))
+      marked : (x : ℕ) → Marked (world (swapped σ f ps)) x → world σ .Pub x ⊎ (x ≡ u) →
+          (world σ .Pub x × Marked (world σ) x) ⊎ ((lose (σ .rank p) u ≡ lose (σ .rank x) (f x)) × (world σ .Pub (f x) → ⊥))
       marked x k (inl a) = by-row x p (λ e. inr (rw (e, s .at) refl, rw (e, s .at) (m .fresh))) (λ n. inl (a, rw (s .off x n) at k))
       marked x k (inr e) = absurd (omega (arith, m .write .free, rw (e, s .off u (λ d. m .fresh (rw d (s .row .known))), m .nxt) at k))
 
   -- a swing marks no row
-  swing-marks : {e y : ℕ} → Swing (world σ) f (Known (σ .orphan) (σ .taken) ps) p e y → (x : ℕ) → Known (σ .orphan) (σ .taken) ps x → Marked (world (swapped σ f ps)) x → world σ .Pub x × Marked (world σ) x
+  swing-marks : {e y : ℕ} → Swing (world σ) f (Known (σ .orphan) (σ .taken) ps) p e y → (x : ℕ) → Known (σ .orphan) (σ .taken) ps x →
+      Marked (world (swapped σ f ps)) x → world σ .Pub x × Marked (world σ) x
   swing-marks {e} {y} m x h k = go (m .new x h)
     where
       go : world σ .Pub x ⊎ ((x ≡ y) × Fresh (world σ) e y) → world σ .Pub x × Marked (world σ) x
@@ -193,7 +205,8 @@ module _ {σ : View} {i p u : ℕ} {f : ℕ → ℕ} {ps : ℕ → Party} (v : I
   inv-swing : {e y : ℕ} → Swing (world σ) f (Known (σ .orphan) (σ .taken) ps) p e y → At (world (swapped σ f ps)) (ps i) (ps i .place) → Inv (swapped σ f ps)
   inv-swing m mine = inv-move v i won-moves (swing-good (v .good) m) (swing-ext (v .good) m) won-keep mine
 
-  pub inv-add : {e : ℕ} → Swing (world σ) f (Known (σ .orphan) (σ .taken) ps) p e u → Fresh (world σ) e u → At (world (swapped σ f ps)) (ps i) (ps i .place) → Steady σ (swapped σ f ps) (gain (σ .rank u))
+  pub inv-add : {e : ℕ} → Swing (world σ) f (Known (σ .orphan) (σ .taken) ps) p e u → Fresh (world σ) e u →
+      At (world (swapped σ f ps)) (ps i) (ps i .place) → Steady σ (swapped σ f ps) (gain (σ .rank u))
   inv-add m h mine = record {
     inv = inv-swing m mine;
     ext = swing-ext (v .good) m;
@@ -202,7 +215,8 @@ module _ {σ : View} {i p u : ℕ} {f : ℕ → ℕ} {ps : ℕ → Party} (v : I
     marks = λ x k l. inl (swing-marks m x k l);
   }
 
-  pub inv-clean : Swing (world σ) f (Known (σ .orphan) (σ .taken) ps) p u u → At (world (swapped σ f ps)) (ps i) (ps i .place) → Steady σ (swapped σ f ps) still
+  pub inv-clean : Swing (world σ) f (Known (σ .orphan) (σ .taken) ps) p u u → At (world (swapped σ f ps)) (ps i) (ps i .place) →
+      Steady σ (swapped σ f ps) still
   inv-clean m mine = record {
     inv = inv-swing m mine;
     ext = swing-ext (v .good) m;

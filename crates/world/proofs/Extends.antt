@@ -27,7 +27,8 @@ module _ {w w′ : World} (g : Good w) (t : Extends w w′) where
   chunk-ext {a} {c} p (pass m d) = pass (marked-ext p m) (subst (Chunk w′ c) (sym (succ-ext p m)) (chunk-ext (pub-succ g a p) d))
 
 module _ {w : World} {f : ℕ → ℕ} {P : ℕ → Type 0} {p v : ℕ} (s : Write w f P p v) where
-  write-ext : ((y : ℕ) → w .Pub y → Open (put w f P) y → Open w y) → ((x y : ℕ) → Row w x → w .Pub y → Reach w y x → Reach (put w f P) y 1 → Reach (put w f P) y x)
+  write-ext : ((y : ℕ) → w .Pub y → Open (put w f P) y → Open w y) →
+      ((x y : ℕ) → Row w x → w .Pub y → Reach w y x → Reach (put w f P) y 1 → Reach (put w f P) y x)
       → ((y : ℕ) → w .Pub y → Reach (put w f P) y 1 → Reach w y 1) → Extends w (put w f P)
   write-ext o r c = record {
     known = λ x h. s .old x h;
@@ -71,7 +72,15 @@ module _ {w w′ : World} (g : Good w) (t : Same w w′) where
   }
 
   pub same-good : Good w′
-  same-good = record { head = same-row (g .head); start = rw (t .rank 0 (g .head .known), one) (g .start); one = same-row (g .one); two = same-row (g .two); three = same-row (g .three); order = rw (one, two) (g .order); each = λ x p. go x (t .only x p) }
+  same-good = record {
+    head = same-row (g .head);
+    start = rw (t .rank 0 (g .head .known), one) (g .start);
+    one = same-row (g .one);
+    two = same-row (g .two);
+    three = same-row (g .three);
+    order = rw (one, two) (g .order);
+    each = λ x p. go x (t .only x p);
+  }
     where
       one : w′ .rank 1 ≡ w .rank 1
       one = t .rank 1 (g .one .known)
@@ -91,7 +100,8 @@ module _ {w w′ : World} (g : Good w) (t : Same w w′) where
 
   same-back : {x y : ℕ} → w .Pub x → Reach w′ y x → Reach w y x
   same-back p (stop e) = stop e
-  same-back {x} {y} p (step h r) = step {a = x} (rw (t .rank x p, t .rank 2 (g .two .known)) at h) (subst (Reach w y) (same-succ x p) (same-back (rw (same-succ x p) (pub-succ g x p)) r))
+  same-back {x} {y} p (step h r) =
+      step {a = x} (rw (t .rank x p, t .rank 2 (g .two .known)) at h) (subst (Reach w y) (same-succ x p) (same-back (rw (same-succ x p) (pub-succ g x p)) r))
 
   pub same-ext : Extends w w′
   same-ext = record {
@@ -105,7 +115,13 @@ module _ {w w′ : World} (g : Good w) (t : Same w w′) where
   }
 
 pub same-sym : {w w′ : World} → Same w w′ → Same w′ w
-same-sym t = record { known = t .only; only = t .known; rank = λ x p. sym (t .rank x (t .only x p)); next = λ x p. sym (t .next x (t .only x p)); back = λ x p. sym (t .back x (t .only x p)) }
+same-sym t = record {
+  known = t .only;
+  only = t .known;
+  rank = λ x p. sym (t .rank x (t .only x p));
+  next = λ x p. sym (t .next x (t .only x p));
+  back = λ x p. sym (t .back x (t .only x p));
+}
 
 pub same-live : {w w′ : World} {r : ℕ} → Good w → Same w w′ → Live w r → Live w′ r
 same-live g t l = record {

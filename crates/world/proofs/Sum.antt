@@ -21,7 +21,8 @@ sum-below f f′ i (suc n) h o = omega (arith, sum-below f f′ i n (omega arith
 pub sum-one : (f f′ : ℕ → ℕ) (i n : ℕ) → i < n → ((j : ℕ) → j ≢ i → f′ j ≡ f j) → sum f′ n + f i ≡ sum f n + f′ i
 unfolding sum
 sum-one f f′ i zero h o = absurd (omega arith)
-sum-one f f′ i (suc n) h o = by-row n i (λ e. omega (arith, sum-below f f′ i n (omega arith) o, ap f e, ap f′ e)) (λ e. omega (arith, sum-one f f′ i n (omega arith) o, o n e))
+sum-one f f′ i (suc n) h o =
+    by-row n i (λ e. omega (arith, sum-below f f′ i n (omega arith) o, ap f e, ap f′ e)) (λ e. omega (arith, sum-one f f′ i n (omega arith) o, o n e))
 
 module _ (f f′ : ℕ → ℕ) (d e u i : ℕ) (others : (j : ℕ) → j ≢ i → f′ j ≤ f j + d) (mine : f′ i + e ≤ f i + u) where
   sum-all : (n : ℕ) → n ≤ i → sum f′ n ≤ sum f n + d * n

@@ -85,7 +85,15 @@ module _ {w : World} {f : ℕ → ℕ} {P : ℕ → Type 0} {c own : ℕ} (g : G
       }
 
   pub mark-good : Good (put w f P)
-  mark-good = record { head = row-put (m .write) (g .head); start = g .start; one = row-put (m .write) (g .one); two = row-put (m .write) (g .two); three = row-put (m .write) (g .three); order = g .order; each = λ x h. go x (m .new x h) }
+  mark-good = record {
+    head = row-put (m .write) (g .head);
+    start = g .start;
+    one = row-put (m .write) (g .one);
+    two = row-put (m .write) (g .two);
+    three = row-put (m .write) (g .three);
+    order = g .order;
+    each = λ x h. go x (m .new x h);
+  }
     where
       go : (x : ℕ) → w .Pub x ⊎ (x ≡ own) → Sound (put w f P) x
       go x (inl h) = by-row x c (λ e. subst (Sound (put w f P)) (sym e) mark-c) (λ n. mark-old x n (g .each x h))
@@ -120,7 +128,8 @@ module _ {w : World} {f : ℕ → ℕ} {P : ℕ → Type 0} {p e v : ℕ} (g : G
   top-v (inr h) = omega (arith, h .less, ahead .2)
 
   -- a row that the swing does not pass by is reached from where it was, from the end of each chunk before it too
-  swing-past : {y a b : ℕ} → (w .rank p < w .rank y → w .rank e ≤ w .rank y) → Row w a → Reach w y a → w .rank b ≤ w .rank y → Chunk w b a → Reach (put w f P) y b
+  swing-past : {y a b : ℕ} → (w .rank p < w .rank y → w .rank e ≤ w .rank y) → Row w a → Reach w y a → w .rank b ≤ w .rank y → Chunk w b a →
+      Reach (put w f P) y b
   swing-past o ρ (stop q) h (here k) = stop (sym k ∙ q)
   swing-past {a = a} o ρ (stop q) h (pass d c) =
       let l = g .each a (ρ .known) .gone d .high in
@@ -173,7 +182,15 @@ module _ {w : World} {f : ℕ → ℕ} {P : ℕ → Type 0} {p e v : ℕ} (g : G
   }
 
   pub swing-good : Good (put w f P)
-  swing-good = record { head = row-put (m .write) (g .head); start = g .start; one = row-put (m .write) (g .one); two = row-put (m .write) (g .two); three = row-put (m .write) (g .three); order = g .order; each = λ x h. go x (m .new x h) }
+  swing-good = record {
+    head = row-put (m .write) (g .head);
+    start = g .start;
+    one = row-put (m .write) (g .one);
+    two = row-put (m .write) (g .two);
+    three = row-put (m .write) (g .three);
+    order = g .order;
+    each = λ x h. go x (m .new x h);
+  }
     where
       go : (x : ℕ) → w .Pub x ⊎ ((x ≡ v) × Fresh w e v) → Sound (put w f P) x
       go x (inl h) = by-row x p (λ k. subst (Sound (put w f P)) (sym k) swing-p) (λ n. swing-old x n h (g .each x h))

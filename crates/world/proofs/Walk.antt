@@ -31,7 +31,12 @@ module _ {w : World} (g : Good w) {K : ℕ} where
   at-c h = chunk-row g (h .row) (h .top) (h .chunk)
 
   pub walk-start : Key w K → Walking w K 0 1 1
-  walk-start k = record { behind = record { key = k; row = g .head; low = omega (arith, g .start) }; row = g .one; top = omega (arith, g .order); chunk = here refl }
+  walk-start k = record {
+    behind = record { key = k; row = g .head; low = omega (arith, g .start) };
+    row = g .one;
+    top = omega (arith, g .order);
+    chunk = here refl;
+  }
 
   -- p stands and reads a next that is no splice: BACK's end, and WALK's step
   pub walk-from : {p : ℕ} → Behind w K p → Open w p → Walking w K p (w .next p) (w .next p)
@@ -114,5 +119,7 @@ module _ {w : World} (g : Good w) {K y : ℕ} (is : w .rank y ≡ K) where
   track-end ρ (stop e) h = e
   track-end {c} ρ (step l r) h = absurd (omega (arith, g .each c (ρ .known) .rises (ρ .pos) l .0, reach-le g (row-succ g ρ l) r))
 
-pub track-ext : {w w′ : World} → Good w → Good w′ → Extends w w′ → {c y : ℕ} → Row w c → w .Pub y → w .rank 1 ≤ w .rank y → w .rank y ≤ w .rank 2 → Open w′ y → Reach w y c → Reach w′ y c
-track-ext g g′ t {c} {y} ρ k a b o r = t .stays c y ρ k r (g′ .each y (t .known y k) .reach (rw (t .rank 1 (g .one .known), t .rank y k) a) (rw (t .rank 2 (g .two .known), t .rank y k) b) o)
+pub track-ext : {w w′ : World} → Good w → Good w′ → Extends w w′ → {c y : ℕ} → Row w c → w .Pub y → w .rank 1 ≤ w .rank y → w .rank y ≤ w .rank 2 →
+    Open w′ y → Reach w y c → Reach w′ y c
+track-ext g g′ t {c} {y} ρ k a b o r =
+    t .stays c y ρ k r (g′ .each y (t .known y k) .reach (rw (t .rank 1 (g .one .known), t .rank y k) a) (rw (t .rank 2 (g .two .known), t .rank y k) b) o)

@@ -36,7 +36,8 @@ module _ {w : World} (g : Good w) where
   -- two rows that are reached from one row: the higher is reached from the lower
   pub reach-linear : {a x y : ℕ} → Row w a → Reach w x a → Reach w y a → w .rank x ≤ w .rank y → Reach w y x
   reach-linear {a} {x} {y} r (stop e) s h = subst (Reach w y) e s
-  reach-linear {a} {x} {y} r (step l s) (stop e) h = absurd (omega (arith, g .each _ (r .known) .rises (r .pos) l .0, reach-le (row-succ r l) s, ap (w .rank) e))
+  reach-linear {a} {x} {y} r (step l s) (stop e) h =
+      absurd (omega (arith, g .each _ (r .known) .rises (r .pos) l .0, reach-le (row-succ r l) s, ap (w .rank) e))
   reach-linear {a} {x} {y} r (step l s) (step k t) h = reach-linear (row-succ r l) s t h
 
   -- the end of a chunk lies on the list too

@@ -6,7 +6,8 @@ use Rattle.world.specs.World.{World, succ, Open}
 
 pub data Chain (w : World) : ℕ → List ℕ → Type 0 where
   end : {a : ℕ} → a ≡ 2 → Chain w a []
-  live : {a k : ℕ} {keys : List ℕ} → w .rank 1 < w .rank a → w .rank a < w .rank 2 → Open w a → w .rank a ≡ 3 + k → Chain w (succ w a) keys → Chain w a (k ∷ keys)
+  live : {a k : ℕ} {keys : List ℕ} → w .rank 1 < w .rank a → w .rank a < w .rank 2 → Open w a → w .rank a ≡ 3 + k → Chain w (succ w a) keys →
+      Chain w a (k ∷ keys)
   -- a removed row, or an end
   past : {a : ℕ} {keys : List ℕ} → w .rank a < w .rank 2 → (Open w a → w .rank a ≤ w .rank 1) → Chain w (succ w a) keys → Chain w a keys
 
