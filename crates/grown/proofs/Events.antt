@@ -61,11 +61,11 @@ move-passed (accepted done) m after e = refl
 move-passed (refused number) m after e = absurd (false≢true e)
 
 module _ (m : Machine) (i : ℕ) where
-  move-is : moveTests m i ≡ passed → moveOf m i ≡ accepting (bareMoveOf m i)
+  pub move-is : moveTests m i ≡ passed → moveOf m i ≡ accepting (bareMoveOf m i)
   unfolding moveOf
   move-is passes = rw passes
 
-  move-tests : isAccepted (moveOf m i .answer) ≡ true → moveTests m i ≡ passed
+  pub move-tests : isAccepted (moveOf m i .answer) ≡ true → moveTests m i ≡ passed
   unfolding moveOf
   move-tests e = move-passed (moveTests m i) m (accepting (bareMoveOf m i)) e
 
@@ -77,21 +77,27 @@ module _ (m : Machine) (i : ℕ) where
   unfolding bareMoveOf
   bare-turn busy = move-turn busy
 
+  -- a party that moves is known, and has a call to answer
+  pub move-asked : moveTests m i ≡ passed → (i < m .state .count) × (isIdle (partyOf m i .place) ≡ false)
+  move-asked passes =
+      let idle : Bool = isIdle (partyOf m i .place) in
+      let form = past-form m (moveAsks (m .state) i) passes in
+      let first = past-test (leb (m .state .count) i) 4 (refusing idle 8 (refusing (eqb (m .state .moves) 16777216) 9 passed)) (form .2) in
+      let second = past-test idle 8 (refusing (eqb (m .state .moves) 16777216) 9 passed) (first .1) in
+      (leb-false (m .state .count) i (first .0), second .0)
+
   move-happens : isAccepted (moveOf m i .answer) ≡ true → Happens m (moves i)
   move-happens e =
       let passes : moveTests m i ≡ passed = move-tests e in
       let is : moveOf m i ≡ accepting (bareMoveOf m i) = move-is passes in
       let form = past-form m (moveAsks (m .state) i) passes in
-      let idle : Bool = isIdle (partyOf m i .place) in
-      let first = past-test (leb (m .state .count) i) 4 (refusing idle 8 (refusing (eqb (m .state .moves) 16777216) 9 passed)) (form .2) in
-      let second = past-test idle 8 (refusing (eqb (m .state .moves) 16777216) 9 passed) (first .1) in
       record {
         fits = form .0;
         form = form .1;
-        known = leb-false (m .state .count) i (first .0);
+        known = move-asked passes .0;
         kept = move-keeps m i (bareMoveOf m i .said) (ap (λ l. l .answer) is);
         still-fits = rw is (bare-fits (form .0));
-        turn = rw is (bare-turn (second .0));
+        turn = rw is (bare-turn (move-asked passes .1));
       }
 
 -- ---- a call
@@ -135,11 +141,11 @@ module _ (m : Machine) (i key : ℕ) (fits : key < 4294967296) (g : Good m) (idl
   call-turn Contains room = asks key fits idle
 
 module _ (m : Machine) (i code key : ℕ) where
-  call-is : callTests m i code ≡ passed → callOf m i code key ≡ left (bareCallOf m i (callNamed code) key) passed
+  pub call-is : callTests m i code ≡ passed → callOf m i code key ≡ left (bareCallOf m i (callNamed code) key) passed
   unfolding callOf
   call-is passes = rw passes
 
-  call-tests : isAccepted (quiet (callOf m i code key .answer)) ≡ true → callTests m i code ≡ passed
+  pub call-tests : isAccepted (quiet (callOf m i code key .answer)) ≡ true → callTests m i code ≡ passed
   unfolding callOf
   call-tests e = call-passed (callTests m i code) m (bareCallOf m i (callNamed code) key) e
 

@@ -71,7 +71,7 @@ module _ (orphan : ℕ → Bool) (parties : ℕ) (m : Machine) (event : Event) (
   form : Good m
   form = good m (s .form)
 
-  inside : whose event < length (m .state .parties)
+  pub inside : whose event < length (m .state .parties)
   inside = omega (arith, h .known, form .few, s .sixteen)
 
   pub turn-of : Turned orphan m (whose event) m′ (deedOf m event)

@@ -15,5 +15,8 @@ pub mod Events
 pub mod Grown
 pub mod SetUp
 pub mod Heeded
+pub mod Serves
+pub mod Since
+pub mod Answers
 pub mod Demands
 pub mod Instances

@@ -171,7 +171,7 @@ module _ (orphan : ℕ → Bool) (m : Machine) (v : Inv (viewOf orphan m)) (i : 
     track-starts {k} (removes own taken) v′ l = rw (now (starting Remove k own)) (from-one (v′ .good) (walks refl refl) refl l)
     track-starts {k} asks-for v′ l = rw (now (looking q Contains k 1)) (from-one (v′ .good) (looks refl) refl l)
 
-    moved-to : (moved : Moved) → partyOf (carried m i moved .after) i ≡ moved .party
+    pub moved-to : (moved : Moved) → partyOf (carried m i moved .after) i ≡ moved .party
     moved-to moved = rw (same-parties (moved .access) (withParty (m .state) i (moved .party))) (now (moved .party))
 
     own-turn : {K : ℕ} {m′ : Machine} {deed : Deed} → Turn m i m′ deed → Turned orphan m i m′ deed → saidBy m i ≡ Nothing → Tracks w q K →
