@@ -7,16 +7,19 @@ use Rattle.bare.specs.Bare.{begunOf, bareCallOf, bareMoveOf}
 use Rattle.form.specs.Form.{kindsFit, keysFit, linksFit, recordFits, partiesFit, goodForm}
 use Rattle.chain.specs.Chain.{rises, liveFrom}
 use Rattle.list.specs.Engine.{setUpOf, callOf, moveOf}
+use Rattle.list.specs.Run.{run}
 use Rattle.world.specs.Keys.{has, extra}
 use Rattle.grown.specs.History.{acceptsAll}
 use Rattle.grown.specs.Deeds.{countsOf}
+use Rattle.grown.specs.Answers.{callsNot}
 use Rattle.grown.specs.Instances.{Instances}
 
 pub instances : Instances
-unfolding acceptsAll countsOf setUpOf callOf moveOf rises liveFrom goodForm kindsFit keysFit linksFit recordFits partiesFit bareCallOf begunOf bareMoveOf walkOf onwardOf landedAddOf landedRemoveOf landedContainsOf prepareOf skipOf addSwapOf markOf rereadOf cleanOf backOf lookOf rank has extra
+unfolding run acceptsAll countsOf callsNot setUpOf callOf moveOf rises liveFrom goodForm kindsFit keysFit linksFit recordFits partiesFit bareCallOf begunOf bareMoveOf walkOf onwardOf landedAddOf landedRemoveOf landedContainsOf prepareOf skipOf addSwapOf markOf rereadOf cleanOf backOf lookOf rank has extra
 instances =
     record {
       run-of-01 = record { grows = record { set = refl; accepted = refl }; counts = refl };
-      most-lost = record { grows = record { set = refl; accepted = refl }; counts = refl };
-      most-won = record { grows = record { set = refl; accepted = refl }; counts = refl };
+      most-lost = record { grows = record { set = refl; accepted = refl }; counts = refl; reached = refl };
+      most-won = record { grows = record { set = refl; accepted = refl }; counts = refl; reached = refl };
+      too-late = record { answered = record { grows = record { set = refl; accepted = refl }; waits = refl; answer = refl }; at-call = refl; at-answer = refl };
     }

@@ -1,11 +1,17 @@
 -- Histories in numbers: the theorems are about something, and their bounds are reached.
 use mathlib.Core.Path.{_≡_}
+use Prim.Native.Nat.{_+_, _-_, _*_}
 use mathlib.Core.List.{[], _∷_}
+use mathlib.Core.Bool.{true, false}
+use Rattle.moves.specs.declared.Said.the-variants.{No}
+use Rattle.list.specs.Engine.{liveKeys}
 use Rattle.list.specs.Run.{calls, moves}
 use Rattle.list.specs.Examples.{bare, collision}
+use Rattle.world.specs.Keys.{has}
 use Rattle.grown.specs.History.{History, start, Grows}
 use Rattle.grown.specs.Counts.{tally, withKeys}
 use Rattle.grown.specs.Deeds.{countsOf}
+use Rattle.grown.specs.Answers.{Asked, called, found, Answered}
 
 -- the run of document 01: 2 calls, 10 moves, 2 swaps won, 1 lost; both won swaps are add swaps; 2 keys in, none out
 pub record RunOf01 : Type 0 where
@@ -22,6 +28,7 @@ race =
 pub record MostLost : Type 0 where
   pub grows : Grows (bare 16) 3 race
   pub counts : countsOf (start (bare 16) 3) race ≡ withKeys 1 0 (tally 3 9 1 2 1 0)
+  pub reached : let c = countsOf (start (bare 16) 3) race in c .lost ≡ (3 - 1) * c .won
 
 -- a key comes by one swap and goes by two
 abbrev pub comeAndGo : History
@@ -31,8 +38,28 @@ comeAndGo = calls 0 0 5 ∷ moves 0 ∷ moves 0 ∷ moves 0 ∷ calls 0 1 5 ∷ 
 pub record MostWon : Type 0 where
   pub grows : Grows (bare 8) 1 comeAndGo
   pub counts : countsOf (start (bare 8) 1) comeAndGo ≡ withKeys 1 1 (tally 2 7 3 0 1 1)
+  pub reached : let c = countsOf (start (bare 8) 1) comeAndGo in c .won ≡ c .ins + 2 * c .outs
+
+-- two parties come to take out the same key, and one is too late: it was live at the call and is not any more
+abbrev pub late : Asked
+late =
+    record {
+      table = bare 12;
+      parties = 2;
+      before = calls 0 0 5 ∷ moves 0 ∷ moves 0 ∷ moves 0 ∷ calls 0 1 5 ∷ [];
+      party = 1;
+      code = 1;
+      key = 5;
+      since = moves 0 ∷ moves 0 ∷ moves 1 ∷ moves 1 ∷ moves 0 ∷ moves 1 ∷ [];
+    }
+
+pub record TooLate : Type 0 where
+  pub answered : Answered late No
+  pub at-call : has 5 (liveKeys (called late)) ≡ true
+  pub at-answer : has 5 (liveKeys (found late)) ≡ false
 
 pub record Instances : Type 0 where
   pub run-of-01 : RunOf01
   pub most-lost : MostLost
   pub most-won : MostWon
+  pub too-late : TooLate
