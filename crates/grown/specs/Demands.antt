@@ -38,7 +38,7 @@ Kept = (t : Table) (parties : ℕ) (history : History) → Grows t parties histo
 abbrev pub Holds : Party → ℕ → Type 0
 Holds q row = (q .unpublished ≡ true) × (q .own ≡ row)
 
--- taken, and held by no party
+-- taken, and held by no party: only such rows are in the list or were in it
 abbrev pub Published : Machine → ℕ → Type 0
 Published m row = (row < m .state .taken) × ((party : ℕ) → Holds (partyOf m party) row → ⊥)
 
@@ -69,7 +69,7 @@ Changes (marked key) before after = (has key before ≡ true) × (after ≡ with
 Changes cleaned before after = after ≡ before
 Changes lost before after = after ≡ before
 
--- every accepted event after every accepted history
+-- every accepted event after every accepted history: a won add swap brings in its key alone, a won mark swap takes out its key alone
 abbrev pub Demand2 : Type 0
 Demand2 = (t : Table) (parties : ℕ) (history : History) (event : Event) → Grows t parties history →
     let m = grown t parties history in
@@ -94,7 +94,7 @@ Demand3 = (t : Table) (parties : ℕ) (history : History) → Grows t parties hi
 abbrev pub rowsHeld : Machine → ℕ
 rowsHeld m = sum (λ party. oneIf (partyOf m party .unpublished)) (m .state .count)
 
--- no row is lost: each is an end, went into the list by an add swap or a mark swap, or is still held
+-- document 01, "The moves", of T. No row is lost: each is an end, went into the list by an add swap or a mark swap, or is still held
 abbrev pub Rows : Type 0
 Rows = (t : Table) (parties : ℕ) (history : History) → Grows t parties history →
     let m = grown t parties history in
