@@ -11,15 +11,24 @@ use Rattle.list.specs.Run.{run}
 use Rattle.world.specs.Keys.{has, extra}
 use Rattle.grown.specs.History.{acceptsAll}
 use Rattle.grown.specs.Deeds.{countsOf}
+use Rattle.grown.specs.Rest.{rowAfter}
 use Rattle.grown.specs.Answers.{callsNot}
 use Rattle.grown.specs.Instances.{Instances}
 
 pub instances : Instances
-unfolding run acceptsAll countsOf callsNot setUpOf callOf moveOf rises liveFrom goodForm kindsFit keysFit linksFit recordFits partiesFit bareCallOf begunOf bareMoveOf walkOf onwardOf landedAddOf landedRemoveOf landedContainsOf prepareOf skipOf addSwapOf markOf rereadOf cleanOf backOf lookOf rank has extra
+unfolding run acceptsAll countsOf callsNot setUpOf callOf moveOf rises liveFrom goodForm kindsFit keysFit linksFit recordFits partiesFit bareCallOf begunOf bareMoveOf walkOf onwardOf landedAddOf landedRemoveOf landedContainsOf prepareOf skipOf addSwapOf markOf rereadOf cleanOf backOf lookOf rank has extra rowAfter
 instances =
     record {
       run-of-01 = record { grows = record { set = refl; accepted = refl }; counts = refl };
       most-lost = record { grows = record { set = refl; accepted = refl }; counts = refl; reached = refl };
       most-won = record { grows = record { set = refl; accepted = refl }; counts = refl; reached = refl };
+      traps = record {
+        over-removed = record { grows = record { set = refl; accepted = refl }; keys-then = refl; chain-then = refl; counts-then = refl };
+        past-removed = record { grows = record { set = refl; accepted = refl }; keys-then = refl; chain-then = refl; counts-then = refl };
+        back-through = record { grows = record { set = refl; accepted = refl }; keys-then = refl; chain-then = refl; counts-then = refl };
+        read-again = record { grows = record { set = refl; accepted = refl }; keys-then = refl; chain-then = refl; counts-then = refl };
+        found-again = record { grows = record { set = refl; accepted = refl }; keys-then = refl; chain-then = refl; counts-then = refl };
+        cleaned-up = refl;
+      };
       too-late = record { answered = record { grows = record { set = refl; accepted = refl }; waits = refl; answer = refl }; at-call = refl; at-answer = refl };
     }

@@ -1,16 +1,18 @@
 -- Histories in numbers: the theorems are about something, and their bounds are reached.
 use mathlib.Core.Path.{_≡_}
-use Prim.Native.Nat.{_+_, _-_, _*_}
-use mathlib.Core.List.{[], _∷_}
+use Prim.Native.Nat.{ℕ, _+_, _-_, _*_}
+use mathlib.Core.List.{List, [], _∷_}
 use mathlib.Core.Bool.{true, false}
 use Rattle.moves.specs.declared.Said.the-variants.{No}
-use Rattle.list.specs.Engine.{liveKeys}
+use Rattle.rows.specs.Table.{nextAt, isSplice}
+use Rattle.list.specs.Engine.{liveKeys, chainRises}
 use Rattle.list.specs.Run.{calls, moves}
 use Rattle.list.specs.Examples.{bare, collision}
 use Rattle.world.specs.Keys.{has}
-use Rattle.grown.specs.History.{History, start, Grows}
-use Rattle.grown.specs.Counts.{tally, withKeys}
+use Rattle.grown.specs.History.{History, start, Grows, grown}
+use Rattle.grown.specs.Counts.{Counts, tally, withKeys}
 use Rattle.grown.specs.Deeds.{countsOf}
+use Rattle.grown.specs.Rest.{rowAfter}
 use Rattle.grown.specs.Answers.{Asked, called, found, Answered}
 
 -- the run of document 01: 2 calls, 10 moves, 2 swaps won, 1 lost; both won swaps are add swaps; 2 keys in, none out
@@ -58,8 +60,55 @@ pub record TooLate : Type 0 where
   pub at-call : has 5 (liveKeys (called late)) ≡ true
   pub at-answer : has 5 (liveKeys (found late)) ≡ false
 
+-- ---- runs in which an engine with one wrong move goes wrong
+
+-- a run by two parties: it is accepted, and leaves these keys and counts, and a chain that rises
+pub record Leaves (history : History) (keys : List ℕ) (counts : Counts) : Type 0 where
+  pub grows : Grows (bare 16) 2 history
+  pub keys-then : liveKeys (grown (bare 16) 2 history) ≡ keys
+  pub chain-then : chainRises (grown (bare 16) 2 history) ≡ true
+  pub counts-then : countsOf (start (bare 16) 2) history ≡ counts
+
+-- an ADD of a key that is being taken out goes in behind the removed row, not behind what p led to
+abbrev pub overRemoved : History
+overRemoved =
+    calls 0 0 5 ∷ moves 0 ∷ moves 0 ∷ moves 0 ∷ calls 0 1 5 ∷ moves 0 ∷ moves 0 ∷ moves 0 ∷ calls 1 0 5 ∷ moves 1 ∷ moves 1 ∷ moves 1 ∷ moves 1 ∷ []
+
+-- an ADD that passes a removed row keeps p where it was, and wins its first swap
+abbrev pub pastRemoved : History
+pastRemoved =
+    calls 0 0 1 ∷ moves 0 ∷ moves 0 ∷ moves 0 ∷ calls 0 1 1 ∷ moves 0 ∷ moves 0 ∷ moves 0 ∷ calls 1 0 2 ∷ moves 1 ∷ moves 1 ∷ moves 1 ∷ moves 1 ∷ []
+
+-- a party whose p has been removed goes back to what the splice leads back to
+abbrev pub backThroughSplice : History
+backThroughSplice =
+    calls 1 0 1 ∷ calls 0 0 0 ∷ moves 0 ∷ moves 0 ∷ moves 0 ∷ calls 0 1 0 ∷ moves 1 ∷ moves 0 ∷ moves 1 ∷ moves 0 ∷ moves 0
+    ∷ moves 1 ∷ moves 1 ∷ moves 1 ∷ moves 1 ∷ moves 1 ∷ moves 1 ∷ moves 1 ∷ []
+
+-- a REMOVE that has read a new next leads its splice there, so that the key behind is not lost
+abbrev pub readAgain : History
+readAgain =
+    calls 0 0 2 ∷ moves 0 ∷ moves 0 ∷ moves 0 ∷ calls 1 0 3 ∷ moves 1 ∷ moves 1 ∷ calls 0 1 2 ∷ moves 1 ∷ moves 0 ∷ moves 0 ∷ moves 1
+    ∷ moves 0 ∷ moves 0 ∷ moves 0 ∷ []
+
+-- a REMOVE that finds its row again cleans up before it says yes
+abbrev pub foundAgain : History
+foundAgain =
+    calls 1 0 1 ∷ moves 1 ∷ moves 1 ∷ moves 1 ∷ calls 1 0 0 ∷ calls 0 1 1 ∷ moves 0 ∷ moves 1 ∷ moves 0 ∷ moves 1 ∷ moves 1
+    ∷ moves 0 ∷ moves 0 ∷ moves 0 ∷ moves 0 ∷ moves 0 ∷ moves 0 ∷ []
+
+pub record Traps : Type 0 where
+  pub over-removed : Leaves overRemoved (5 ∷ []) (withKeys 2 1 (tally 3 10 3 0 2 1))
+  pub past-removed : Leaves pastRemoved (2 ∷ []) (withKeys 2 1 (tally 3 10 3 0 2 1))
+  pub back-through : Leaves backThroughSplice (1 ∷ []) (withKeys 2 1 (tally 3 15 3 1 2 1))
+  pub read-again : Leaves readAgain (3 ∷ []) (withKeys 2 1 (tally 3 12 3 1 2 1))
+  pub found-again : Leaves foundAgain (0 ∷ []) (withKeys 2 1 (tally 3 14 4 1 2 1))
+  -- and no splice is left on the chain
+  pub cleaned-up : let t = grown (bare 16) 2 foundAgain .table in isSplice t (nextAt t (rowAfter t 1)) ≡ false
+
 pub record Instances : Type 0 where
   pub run-of-01 : RunOf01
   pub most-lost : MostLost
   pub most-won : MostWon
   pub too-late : TooLate
+  pub traps : Traps
