@@ -20,18 +20,18 @@ use Rattle.grown.specs.Demands.{Holds}
 -- ---- the own row
 
 -- own is an unpublished item of rank K
-pub record Item (w : World) (own : ℕ) (unpublished : Bool) (K : ℕ) : Type 0 where
+pub record OwnItem (w : World) (own : ℕ) (unpublished : Bool) (K : ℕ) : Type 0 where
   pub hidden : unpublished ≡ true
   pub is : w .rank own ≡ K
 
 -- own is an unpublished splice that leads back to p
-pub record Knife (w : World) (own : ℕ) (unpublished : Bool) (p : ℕ) : Type 0 where
+pub record OwnSplice (w : World) (own : ℕ) (unpublished : Bool) (p : ℕ) : Type 0 where
   pub hidden : unpublished ≡ true
   pub is : w .rank own ≡ 0
   pub behind : w .back own ≡ p
 
 -- own is a published splice, and r the row after it
-pub record Done (w : World) (own : ℕ) (unpublished : Bool) (r : ℕ) : Type 0 where
+pub record OwnMark (w : World) (own : ℕ) (unpublished : Bool) (r : ℕ) : Type 0 where
   pub shown : unpublished ≡ false
   pub known : w .Pub own
   pub is : w .rank own ≡ 0
@@ -39,32 +39,32 @@ pub record Done (w : World) (own : ℕ) (unpublished : Bool) (r : ℕ) : Type 0 
 
 -- at WALK: a REMOVE may have marked
 abbrev pub Mine : World → Call → (own : ℕ) → Bool → (r K : ℕ) → Type 0
-Mine w Add own unpublished r K = Item w own unpublished K
-Mine w Remove own unpublished r K = Item w own unpublished K ⊎ Done w own unpublished r
+Mine w Add own unpublished r K = OwnItem w own unpublished K
+Mine w Remove own unpublished r K = OwnItem w own unpublished K ⊎ OwnMark w own unpublished r
 Mine w Contains own unpublished r K = ⊥
 
 -- at BACK: a REMOVE has marked
 abbrev pub Away : World → Call → (own : ℕ) → Bool → (r K : ℕ) → Type 0
-Away w Add own unpublished r K = Item w own unpublished K
-Away w Remove own unpublished r K = Done w own unpublished r
+Away w Add own unpublished r K = OwnItem w own unpublished K
+Away w Remove own unpublished r K = OwnMark w own unpublished r
 Away w Contains own unpublished r K = ⊥
 
 -- at SKIP and ADDSWAP, which are an ADD's
 abbrev pub Adds : World → Call → (own : ℕ) → Bool → (K : ℕ) → Type 0
-Adds w Add own unpublished K = Item w own unpublished K
+Adds w Add own unpublished K = OwnItem w own unpublished K
 Adds w Remove own unpublished K = ⊥
 Adds w Contains own unpublished K = ⊥
 
 -- at MARK and REREAD, which are a REMOVE's
 abbrev pub Cuts : World → Call → (own : ℕ) → Bool → (p : ℕ) → Type 0
 Cuts w Add own unpublished p = ⊥
-Cuts w Remove own unpublished p = Knife w own unpublished p
+Cuts w Remove own unpublished p = OwnSplice w own unpublished p
 Cuts w Contains own unpublished p = ⊥
 
 -- at CLEAN, which is a REMOVE's
 abbrev pub Ends : World → Call → (own : ℕ) → Bool → (r : ℕ) → Type 0
 Ends w Add own unpublished r = ⊥
-Ends w Remove own unpublished r = Done w own unpublished r
+Ends w Remove own unpublished r = OwnMark w own unpublished r
 Ends w Contains own unpublished r = ⊥
 
 -- at LOOK, which is a CONTAINS'
@@ -106,13 +106,13 @@ module _ {w w′ : World} (g : Good w) (t : Extends w w′) (q : Party) (own : (
   kept : q .unpublished ≡ true → Keeps w w′ (q .own)
   kept f = own (q .own) (f, refl)
 
-  item-ext : {K : ℕ} → Item w (q .own) (q .unpublished) K → Item w′ (q .own) (q .unpublished) K
+  item-ext : {K : ℕ} → OwnItem w (q .own) (q .unpublished) K → OwnItem w′ (q .own) (q .unpublished) K
   item-ext h = record { hidden = h .hidden; is = rw (kept (h .hidden) .rank) (h .is) }
 
-  knife-ext : Knife w (q .own) (q .unpublished) (q .p) → Knife w′ (q .own) (q .unpublished) (q .p)
+  knife-ext : OwnSplice w (q .own) (q .unpublished) (q .p) → OwnSplice w′ (q .own) (q .unpublished) (q .p)
   knife-ext h = record { hidden = h .hidden; is = rw (kept (h .hidden) .rank) (h .is); behind = rw (kept (h .hidden) .back) (h .behind) }
 
-  done-ext : {r : ℕ} → Done w (q .own) (q .unpublished) r → Done w′ (q .own) (q .unpublished) r
+  done-ext : {r : ℕ} → OwnMark w (q .own) (q .unpublished) r → OwnMark w′ (q .own) (q .unpublished) r
   done-ext h = record {
     shown = h .shown;
     known = t .known _ (h .known);

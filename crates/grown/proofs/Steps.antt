@@ -30,7 +30,7 @@ use Rattle.world.proofs.Swap.{mark-good}
 use Rattle.world.proofs.Walk.{walking-ext, at-c, walk-from, walk-on, walk-past, past-rises, back-splice, add-swing, clean-swing, mark-mark}
 use Rattle.grown.specs.Demands.{Holds}
 use Rattle.grown.specs.Deeds.{Deed}
-use Rattle.grown.proofs.Party.{Item, Knife, Done, At, Keeps, at-ext, away-mine}
+use Rattle.grown.proofs.Party.{OwnItem, OwnSplice, OwnMark, At, Keeps, at-ext, away-mine}
 use Rattle.grown.proofs.View.{View, world, Known, Inv, Steady, Wins, won-write, won-new, won-mine, inv-quiet, inv-mark, inv-add, inv-clean}
 use Rattle.grown.proofs.Machine.{viewOf, changeOf}
 use Rattle.grown.proofs.Does.{
@@ -134,7 +134,7 @@ module _ (orphan : ℕ → Bool) (m : Machine) (v : Inv (viewOf orphan m)) (z : 
   own-in f = v .inside i (q .own) (f, refl)
 
   -- the own row is led to where the walk has landed
-  prepared : (k : ℕ) → Walking w (3 + k) (q .p) (q .n) (q .c) → 3 + k < w .rank (q .c) → Item w (q .own) (q .unpublished) (3 + k)
+  prepared : (k : ℕ) → Walking w (3 + k) (q .p) (q .n) (q .c) → 3 + k < w .rank (q .c) → OwnItem w (q .own) (q .unpublished) (3 + k)
       → Steady (viewOf orphan m) (became (link (m .table) (q .own) (q .c)) (adding q Add k (q .p) (q .n))) still
   prepared k W b I =
       let e : nextAt (link (m .table) (q .own) (q .c)) (q .own) ≡ q .c =
@@ -165,7 +165,7 @@ module _ (orphan : ℕ → Bool) (m : Machine) (v : Inv (viewOf orphan m)) (z : 
       ))
 
   -- the own splice is led to the new next
-  reread : (k : ℕ) → Walking w (3 + k) (q .p) (q .n) (q .c) → w .rank (q .c) ≡ 3 + k → Open w (q .c) → Knife w (q .own) (q .unpublished) (q .p)
+  reread : (k : ℕ) → Walking w (3 + k) (q .p) (q .n) (q .c) → w .rank (q .c) ≡ 3 + k → Open w (q .c) → OwnSplice w (q .own) (q .unpublished) (q .p)
       → Steady (viewOf orphan m) (became (link (m .table) (q .own) (w .next (q .c))) (marking q Remove k (q .p) (q .n) (q .c) (w .next (q .c)))) still
   reread k W b o n =
       let t = m .table in
@@ -203,7 +203,7 @@ module _ (orphan : ℕ → Bool) (m : Machine) (v : Inv (viewOf orphan m)) (z : 
   just-own x (inl a) = inl a
   just-own x (inr b) = inr (sym (b .1))
 
-  add-won : (k : ℕ) → Walking w (3 + k) (q .p) (q .n) (w .next (q .own)) → 3 + k < w .rank (w .next (q .own)) → Item w (q .own) (q .unpublished) (3 + k)
+  add-won : (k : ℕ) → Walking w (3 + k) (q .p) (q .n) (w .next (q .own)) → 3 + k < w .rank (w .next (q .own)) → OwnItem w (q .own) (q .unpublished) (3 + k)
       → w .next (q .p) ≡ q .n → Steady (viewOf orphan m) (became (link (m .table) (q .p) (q .own)) (idling (published q))) (gain (3 + k))
   add-won k W b I e =
       let s = win (q .p) (q .own) (idling (published q)) refl (W .behind .row) (rw e (W .row .pos)) in
@@ -212,7 +212,7 @@ module _ (orphan : ℕ → Bool) (m : Machine) (v : Inv (viewOf orphan m)) (z : 
       (inv-add v s (add-swing g W b e (I .is) F (won-write v s) (won-mine v s (q .own) (I .hidden, refl)) (λ x d. just-own x (won-new v s x d))) F
       (rw (now (idling (published q))) tt))
 
-  module _ (k : ℕ) (W : Walking w (3 + k) (q .p) (q .n) (q .r)) (b : 3 + k < w .rank (q .r)) (D : Done w (q .own) (q .unpublished) (q .r)) (e : w .next (q .p) ≡ q .n) where
+  module _ (k : ℕ) (W : Walking w (3 + k) (q .p) (q .n) (q .r)) (b : 3 + k < w .rank (q .r)) (D : OwnMark w (q .own) (q .unpublished) (q .r)) (e : w .next (q .p) ≡ q .n) where
     clean-win : Wins (viewOf orphan m) i (q .p) (q .r) (λ row. nextAt (link (m .table) (q .p) (q .r)) row) (λ j. getD (set (m .state .parties) i (idling q)) j blank)
     clean-win = win (q .p) (q .r) (idling q) (D .shown) (W .behind .row) (rw e (W .row .pos))
 
@@ -223,7 +223,7 @@ module _ (orphan : ℕ → Bool) (m : Machine) (v : Inv (viewOf orphan m)) (z : 
     clean-won : Steady (viewOf orphan m) (became (link (m .table) (q .p) (q .r)) (idling q)) still
     clean-won = inv-clean v clean-win clean-swings (rw (now (idling q)) tt)
 
-  mark-won : (k : ℕ) → Walking w (3 + k) (q .p) (q .n) (q .c) → w .rank (q .c) ≡ 3 + k → Knife w (q .own) (q .unpublished) (q .p) →
+  mark-won : (k : ℕ) → Walking w (3 + k) (q .p) (q .n) (q .c) → w .rank (q .c) ≡ 3 + k → OwnSplice w (q .own) (q .unpublished) (q .p) →
       w .next (q .own) ≡ q .s → Row w (q .s)
       → w .next (q .c) ≡ q .s →
       Steady (viewOf orphan m) (became (link (m .table) (q .c) (q .own)) (cleaning (published q) Remove k (q .p) (q .n) (q .s))) (lose (3 + k) (q .own))
@@ -245,7 +245,7 @@ module _ (orphan : ℕ → Bool) (m : Machine) (v : Inv (viewOf orphan m)) (z : 
 
   -- a REMOVE that has marked finds its row again
   found : (k : ℕ) → Walking w (3 + k) (q .p) (q .n) (q .c) → 3 + k ≤ w .rank (q .c) → q .unpublished ≡ false → w .next (q .c) ≡ q .own
-      → Item w (q .own) (q .unpublished) (3 + k) ⊎ Done w (q .own) (q .unpublished) (q .r) →
+      → OwnItem w (q .own) (q .unpublished) (3 + k) ⊎ OwnMark w (q .own) (q .unpublished) (q .r) →
       Steady (viewOf orphan m) (became (m .table) (cleaning q Remove k (q .p) (q .n) (q .r))) still
   found k W b f e (inl I) = absurd (true≢false (sym (I .hidden) ∙ f))
   found k W b f e (inr D) =

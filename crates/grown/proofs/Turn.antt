@@ -186,8 +186,9 @@ module _ (orphan : ℕ → Bool) (m : Machine) (v : Inv (viewOf orphan m)) (z : 
 
   -- ---- a call
 
-  W₀ : (key : ℕ) → key < 4294967296 → Walking w (3 + key) 0 1 1
-  W₀ key fits = walk-start (v .good) (key-of v key fits)
+  -- every walk starts between rows 0 and 1
+  at-start : (key : ℕ) → key < 4294967296 → Walking w (3 + key) 0 1 1
+  at-start key fits = walk-start (v .good) (key-of v key fits)
 
   -- a call begins at row 0, whose next is row 1
   next-zero : nextAt (m .table) 0 ≡ 1
@@ -200,7 +201,7 @@ module _ (orphan : ℕ → Bool) (m : Machine) (v : Inv (viewOf orphan m)) (z : 
       let l = v .inside i own (f, refl) in
       quiet orphan m v z i h (withRow (m .table) own 2 key 0 0) (starting call key own) (λ x d. (f, d .1)) (λ x d. (refl, d .1))
       (λ x n. let r = row-off (m .table) own 2 key 0 0 x (λ e. n (f, sym e)) in record { rank = r .0; next = r .1; back = r .2 })
-      (λ e. start-at _ call key own is (walking-ext (v .good) e (W₀ key fits)) (item-rank (m .table) own key 0 0 (omega (arith, z)) (omega (arith, z))))
+      (λ e. start-at _ call key own is (walking-ext (v .good) e (at-start key fits)) (item-rank (m .table) own key 0 0 (omega (arith, z)) (omega (arith, z))))
 
   call-take : (call : Call) (key : ℕ) → isContains call ≡ false → key < 4294967296 → partyOf m i .unpublished ≡ false → T < rowsIn (m .table) →
       Steady (viewOf orphan m) (viewOf orphan (begun m i T (T + 1) call key)) still
@@ -212,7 +213,7 @@ module _ (orphan : ℕ → Bool) (m : Machine) (v : Inv (viewOf orphan m)) (z : 
       (λ x d. absurd (true≢false (sym (d .0) ∙ f)))
       (λ x c d. rw e (refl, omega arith))
       (λ x d. let r = row-off (m .table) T 2 key 0 0 x (λ c. d (rw e (refl, sym c))) in record { rank = r .0; next = r .1; back = r .2 })
-      (λ t. rw e (start-at _ call key T is (walking-ext (v .good) t (W₀ key fits)) (item-rank (m .table) T key 0 0 room (omega (arith, z)))))
+      (λ t. rw e (start-at _ call key T is (walking-ext (v .good) t (at-start key fits)) (item-rank (m .table) T key 0 0 room (omega (arith, z)))))
 
   call-look : (key : ℕ) → key < 4294967296 → Steady (viewOf orphan m) (viewOf orphan (asking m i key)) still
   call-look key fits = reads-only orphan m v z i h (looking (partyOf m i) Contains key 1) (λ x d. d) (λ x d. d) (key-of v key fits, v .good .one, omega (arith, v .good .order), tt)

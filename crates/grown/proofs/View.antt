@@ -35,12 +35,16 @@ Known o t ps x = (x < t) × ((j : ℕ) → Holds (ps j) x → ⊥) × (o x ≡ f
 abbrev pub world : View → World
 world σ = record { rank = σ .rank; next = σ .next; back = σ .back; Pub = Known (σ .orphan) (σ .taken) (σ .party) }
 
+-- the invariant; docs/PROOFS.md has it in words
 pub record Inv (σ : View) : Type 0 where
   pub good : Good (world σ)
+  -- the rank of every key lies between those of rows 1 and 2
   pub scale : (σ .rank 1 ≡ 2) × (σ .rank 2 ≡ 4294967299)
   pub holds : (j : ℕ) → At (world σ) (σ .party j) (σ .party j .place)
   pub inside : (j x : ℕ) → Holds (σ .party j) x → x < σ .taken
+  -- no row is held by two parties
   pub apart : (i j x : ℕ) → Holds (σ .party i) x → Holds (σ .party j) x → i ≡ j
+  -- orphans are taken and nobody's
   pub lost : (x : ℕ) → σ .orphan x ≡ true → (x < σ .taken) × ((j : ℕ) → Holds (σ .party j) x → ⊥)
 
 -- what is held is no orphan
@@ -52,7 +56,7 @@ not-orphan {σ} v j x h = go (σ .orphan x) refl
     go false e = e
 
 -- a turn of party i: the others stay, and i holds what it held, or the first row that was not taken
-pub record Moves (σ σ′ : View) (i : ℕ) : Type 0 where
+pub record Alone (σ σ′ : View) (i : ℕ) : Type 0 where
   pub others : (j : ℕ) → j ≢ i → σ′ .party j ≡ σ .party j
   pub grows : σ .taken ≤ σ′ .taken
   pub same : (x : ℕ) → σ′ .orphan x ≡ σ .orphan x
@@ -69,7 +73,7 @@ pub record Steady (σ σ′ : View) (d : Change) : Type 0 where
   -- a row that is newly published is a splice, or the item gained
   pub news : (y : ℕ) → world σ′ .Pub y → 0 < σ′ .rank y → world σ .Pub y ⊎ (d ≡ gain (σ′ .rank y))
 
-module _ {σ σ′ : View} (v : Inv σ) (i : ℕ) (m : Moves σ σ′ i) where
+module _ {σ σ′ : View} (v : Inv σ) (i : ℕ) (m : Alone σ σ′ i) where
   -- what is left to show of a move
   pub inv-move : Good (world σ′) → Extends (world σ) (world σ′) → ((j x : ℕ) → j ≢ i → Holds (σ .party j) x → Keeps (world σ) (world σ′) x)
       → At (world σ′) (σ′ .party i) (σ′ .party i .place) → Inv σ′
@@ -152,8 +156,8 @@ abbrev pub swapped : View → (ℕ → ℕ) → (ℕ → Party) → View
 swapped σ f ps = record { rank = σ .rank; next = f; back = σ .back; taken = σ .taken; party = ps; orphan = σ .orphan }
 
 module _ {σ : View} {i p u : ℕ} {f : ℕ → ℕ} {ps : ℕ → Party} (v : Inv σ) (s : Wins σ i p u f ps) where
-  won-moves : Moves σ (swapped σ f ps) i
-  won-moves = record { others = s .others; grows = le-refl _; same = λ x. refl; holding = λ x h. absurd (s .none x h) }
+  won-alone : Alone σ (swapped σ f ps) i
+  won-alone = record { others = s .others; grows = le-refl _; same = λ x. refl; holding = λ x h. absurd (s .none x h) }
 
   pub won-write : Write (world σ) f (Known (σ .orphan) (σ .taken) ps) p u
   won-write = record {
@@ -181,7 +185,7 @@ module _ {σ : View} {i p u : ℕ} {f : ℕ → ℕ} {ps : ℕ → Party} (v : I
   pub inv-mark : Mark (world σ) f (Known (σ .orphan) (σ .taken) ps) p u → At (world (swapped σ f ps)) (ps i) (ps i .place) →
       Steady σ (swapped σ f ps) (lose (σ .rank p) u)
   inv-mark m mine = let t = mark-ext (v .good) m in record {
-    inv = inv-move v i won-moves (mark-good (v .good) m) t won-keep mine;
+    inv = inv-move v i won-alone (mark-good (v .good) m) t won-keep mine;
     ext = t;
     live = mark-effect (v .good) m;
     news = λ y h p. ⊎-elim (λ a. inl a) (λ e. absurd (omega (arith, ap (σ .rank) e, m .splice))) (m .new y h);
@@ -203,7 +207,7 @@ module _ {σ : View} {i p u : ℕ} {f : ℕ → ℕ} {ps : ℕ → Party} (v : I
       go (inr d) = absurd (omega (arith, ahead (v .good) m .0 .pos, rw (d .0, put-succ-v (v .good) m (d .1) .0) at k))
 
   inv-swing : {e y : ℕ} → Swing (world σ) f (Known (σ .orphan) (σ .taken) ps) p e y → At (world (swapped σ f ps)) (ps i) (ps i .place) → Inv (swapped σ f ps)
-  inv-swing m mine = inv-move v i won-moves (swing-good (v .good) m) (swing-ext (v .good) m) won-keep mine
+  inv-swing m mine = inv-move v i won-alone (swing-good (v .good) m) (swing-ext (v .good) m) won-keep mine
 
   pub inv-add : {e : ℕ} → Swing (world σ) f (Known (σ .orphan) (σ .taken) ps) p e u → Fresh (world σ) e u →
       At (world (swapped σ f ps)) (ps i) (ps i .place) → Steady σ (swapped σ f ps) (gain (σ .rank u))
