@@ -16,7 +16,7 @@ use Rattle.party.specs.Party.{blank, starting, looking}
 use Rattle.moves.specs.declared.Said.{Said}
 use Rattle.moves.specs.declared.Said.the-variants.{Yes, No}
 use Rattle.bare.specs.Bare.{Machine, partyOf, ownRow, takenThen, begunOf, bareCallOf, bareMoveOf}
-use Rattle.form.specs.Form.{isIdle}
+use Rattle.form.specs.Form.{isRemove, isIdle}
 use Rattle.list.specs.Engine.{liveKeys, callNamed, callOf, moveTests}
 use Rattle.list.specs.Run.{calls, quiet, turnOf, run}
 use Rattle.world.specs.Live.{Live}
@@ -31,7 +31,7 @@ use Rattle.grown.proofs.Track.{Starts, removes, asks-for, no-missed, tr
 use Rattle.grown.proofs.Events.{move-is, move-tests, move-asked, call-is, call-tests}
 use Rattle.grown.proofs.Grown.{Healthy, inside, healthy-turn, healthy-along}
 use Rattle.grown.proofs.SetUp.{none, set-up}
-use Rattle.grown.proofs.Serves.{Serves, walk, look, isRemove, add-told, found-told, look-told, cut-told}
+use Rattle.grown.proofs.Serves.{Serves, walk, look, add-told, found-told, look-told, cut-told}
 use Rattle.grown.proofs.Since.{Sometime, Serving, Marks, Following, Absent, serving-since, following-since}
 
 -- ---- two histories, one after the other

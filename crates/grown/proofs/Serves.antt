@@ -16,7 +16,7 @@ use Rattle.moves.specs.declared.Said.{Said}
 use Rattle.moves.specs.declared.Said.the-variants.{Nothing, Yes, No}
 use Rattle.moves.specs.declared.Moved.{Moved}
 use Rattle.bare.specs.Bare.{Machine}
-use Rattle.form.specs.Form.{isIdle}
+use Rattle.form.specs.Form.{isRemove, isIdle}
 use Rattle.world.specs.World.{World}
 use Rattle.world.specs.Live.{Live}
 use Rattle.grown.specs.Deeds.{Deed, added, marked, deedAt}
@@ -99,11 +99,6 @@ does-goes (look-steps b o) look = goes look
 does-goes (look-other b n) look = ends refl
 does-goes (look-late b o) look = ends refl
 does-goes (look-finds b o) look = ends refl
-
-abbrev pub isRemove : Call → Bool
-isRemove Add = false
-isRemove Remove = true
-isRemove Contains = false
 
 -- a party that is still busy serves its call if it has not marked
 pub marks-or-serves : {k : ℕ} {call : Call} {deed : Deed} {said : Said} {q : Party} → Goes k call deed said q →

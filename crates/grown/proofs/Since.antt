@@ -13,7 +13,7 @@ use Rattle.party.specs.declared.Party.{Party}
 use Rattle.moves.specs.declared.Said.the-variants.{Nothing}
 use Rattle.moves.specs.Moves.{placeOf}
 use Rattle.bare.specs.Bare.{Machine, partyOf, bareMoveOf}
-use Rattle.form.specs.Form.{isIdle}
+use Rattle.form.specs.Form.{isRemove, isIdle}
 use Rattle.list.specs.Engine.{liveKeys}
 use Rattle.list.specs.Run.{Event, calls, moves, turnOf, run}
 use Rattle.world.specs.Live.{Live}
@@ -30,7 +30,7 @@ use Rattle.grown.proofs.Track.{Tracks, moved-to, track-turns}
 use Rattle.grown.proofs.Events.{whose, happens, move-is, move-tests, move-asked}
 use Rattle.grown.proofs.Grown.{Healthy, inside, turn-of, healthy-turn}
 use Rattle.grown.proofs.SetUp.{none}
-use Rattle.grown.proofs.Serves.{Serves, Goes, isRemove, does-goes, marks-or-serves, does-silent}
+use Rattle.grown.proofs.Serves.{Serves, Goes, does-goes, marks-or-serves, does-silent}
 
 -- ---- from state to state
 
