@@ -8,7 +8,6 @@ use mathlib.Core.Bool.{Bool, false, true≢false}
 use native.Mathlib.Decide.{decLe, decLt}
 use native.Mathlib.Omega.{arith}
 use lib.ListN.{length}
-use lib.Seq.{getD-set-same}
 use borrow.Author.Tests.{eqb-true}
 use Rattle.rows.specs.Table.{Table, kindAt, nextAt, isSplice}
 use Rattle.rows.specs.Order.{rank}
@@ -16,7 +15,6 @@ use Rattle.party.specs.declared.Call.the-variants.{Remove}
 use Rattle.party.specs.declared.Place.{Place}
 use Rattle.party.specs.declared.Place.the-variants.{Idle, Walk, Clean, Back}
 use Rattle.party.specs.declared.Party.{Party}
-use Rattle.party.specs.Party.{blank, withParty}
 use Rattle.moves.specs.declared.Moved.{Moved}
 use Rattle.bare.specs.Bare.{Machine, partyOf, carried}
 use Rattle.form.proofs.Good.{Rows}
@@ -49,7 +47,7 @@ use Rattle.grown.proofs.Does.{
   back-ends,
 }
 use Rattle.grown.proofs.Steps.{clean-swings}
-use Rattle.grown.proofs.Turn.{Turn, moves, spares, takes, asks, Turned, same-parties}
+use Rattle.grown.proofs.Turn.{Turn, moves, spares, takes, asks, Turned, party-after}
 use Rattle.grown.proofs.Listing.{behind-is, no-splice}
 
 -- ---- who sees to a removed row
@@ -173,16 +171,11 @@ module _ (orphan : ℕ → Bool) (m : Machine) where
       does-takes cleaned w′ d = tt
       does-takes lost w′ d = tt
 
-      -- the record that a move leaves to its party
-      party-after : (moved : Moved) → partyOf (carried m i moved .after) i ≡ moved .party
-      party-after moved =
-          rw (same-parties (moved .access) (withParty (m .state) i (moved .party))) (getD-set-same (m .state .parties) i (moved .party) blank h)
-
       moved-neatly : {moved : Moved} {deed : Deed} → Does t q (q .place) moved deed →
           Neatly (viewOf orphan m) (viewOf orphan (carried m i moved .after)) i (changeOf deed (q .own))
       moved-neatly {moved} {deed} d = record {
-        keeps = λ x p r s c. rw (party-after moved) (does-cares x d (v .holds i) p r s (c .0) (c .1));
-        fresh = rw (party-after moved) (does-takes deed _ d);
+        keeps = λ x p r s c. rw (party-after m i h moved) (does-cares x d (v .holds i) p r s (c .0) (c .1));
+        fresh = rw (party-after m i h moved) (does-takes deed _ d);
       }
 
       neatly : {m′ : Machine} {deed : Deed} → Turn m i m′ deed → Neatly (viewOf orphan m) (viewOf orphan m′) i (changeOf deed (q .own))

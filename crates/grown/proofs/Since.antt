@@ -26,7 +26,8 @@ use Rattle.grown.proofs.Machine.{worldOf}
 use Rattle.grown.proofs.Does.{by-test, Does, does}
 use Rattle.grown.proofs.Listing.{keys-live}
 use Rattle.grown.proofs.Replies.{saidBy}
-use Rattle.grown.proofs.Track.{Tracks, moved-to, track-turns}
+use Rattle.grown.proofs.Track.{Tracks, track-turns}
+use Rattle.grown.proofs.Turn.{party-after}
 use Rattle.grown.proofs.Events.{whose, happens, move-is, move-tests, move-asked}
 use Rattle.grown.proofs.Grown.{Healthy, inside, turn-of, healthy-turn}
 use Rattle.grown.proofs.SetUp.{none}
@@ -93,7 +94,7 @@ module _ (parties i : ℕ) (m : Machine) (s : Healthy none parties m) (e : accep
 
   moved-is : q′ ≡ placeOf (q .place) (m .table) q .party
   unfolding bareMoveOf
-  moved-is = rw (move-is m i (move-tests m i e)) (moved-to none m (s .inv) i (inside none parties m (moves i) s e) (placeOf (q .place) (m .table) q))
+  moved-is = rw (move-is m i (move-tests m i e)) (party-after m i (inside none parties m (moves i) s e) (placeOf (q .place) (m .table) q))
 
   it : Does (m .table) q (q .place) (placeOf (q .place) (m .table) q) (deedOf m (moves i))
   it = does (m .table) q (worldOf none m) (q .place) busy (s .inv .holds i)

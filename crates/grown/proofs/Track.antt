@@ -12,7 +12,7 @@ use Rattle.party.specs.declared.Call.the-variants.{Remove, Contains}
 use Rattle.party.specs.declared.Place.{Place}
 use Rattle.party.specs.declared.Place.the-variants.{Idle, Walk, Mark, Reread, Look}
 use Rattle.party.specs.declared.Party.{Party}
-use Rattle.party.specs.Party.{blank, starting, looking, withParty}
+use Rattle.party.specs.Party.{blank, starting, looking}
 use Rattle.moves.specs.declared.Said.{Said}
 use Rattle.moves.specs.declared.Said.the-variants.{Nothing, Yes, No}
 use Rattle.moves.specs.declared.Moved.{Moved}
@@ -29,7 +29,7 @@ use Rattle.grown.proofs.Party.{At}
 use Rattle.grown.proofs.View.{View, world, Inv, Steady}
 use Rattle.grown.proofs.Machine.{viewOf, worldOf, changeOf}
 use Rattle.grown.proofs.Does.{Does, does, passes, steps, cut-ready, cut-again, mark-wins, mark-loses, rereads, look-passes, look-steps}
-use Rattle.grown.proofs.Turn.{begun, asking, Turn, moves, spares, takes, asks, Turned, same-parties}
+use Rattle.grown.proofs.Turn.{begun, asking, Turn, moves, spares, takes, asks, Turned, party-after}
 use Rattle.grown.proofs.Replies.{Missed, Told, cut-no, reread-no, look-no, saidBy, move-reply}
 
 -- ---- who looks for a key
@@ -171,14 +171,11 @@ module _ (orphan : ℕ → Bool) (m : Machine) (v : Inv (viewOf orphan m)) (i : 
     track-starts {k} (removes own taken) v′ l = rw (now (starting Remove k own)) (from-one (v′ .good) (walks refl refl) refl l)
     track-starts {k} asks-for v′ l = rw (now (looking q Contains k 1)) (from-one (v′ .good) (looks refl) refl l)
 
-    pub moved-to : (moved : Moved) → partyOf (carried m i moved .after) i ≡ moved .party
-    moved-to moved = rw (same-parties (moved .access) (withParty (m .state) i (moved .party))) (now (moved .party))
-
     own-turn : {K : ℕ} {m′ : Machine} {deed : Deed} → Turn m i m′ deed → Turned orphan m i m′ deed → saidBy m i ≡ Nothing → Tracks w q K →
         Live (worldOf orphan m′) K → Tracks (worldOf orphan m′) (partyOf m′ i) K
     own-turn (moves b) t e s l =
         let moved = placeOf (q .place) (m .table) q in
-        own-move (carried m i moved .after) (moved-to moved) (does (m .table) q w (q .place) b (v .holds i)) (t .steady) (subst Going (sym e) tt) s l
+        own-move (carried m i moved .after) (party-after m i h moved) (does (m .table) q w (q .place) b (v .holds i)) (t .steady) (subst Going (sym e) tt) s l
     own-turn (spares call key is fits idle f) t e s l = absurd (not-idle (s .seeks) idle)
     own-turn (takes call key is fits idle f room) t e s l = absurd (not-idle (s .seeks) idle)
     own-turn (asks key fits idle) t e s l = absurd (not-idle (s .seeks) idle)

@@ -108,7 +108,7 @@ plain-small (Splice row to from) t plain old = put-small (t .key) row 0 (omega a
 -- ---- the tallies
 
 -- an access changes the tallies only
-pub same-parties : (access : Access) (st : State) → tallied access st .parties ≡ st .parties
+same-parties : (access : Access) (st : State) → tallied access st .parties ≡ st .parties
 same-parties None st = refl
 same-parties Read st = refl
 same-parties Won st = refl
@@ -125,6 +125,11 @@ same-count None st = refl
 same-count Read st = refl
 same-count Won st = refl
 same-count Lost st = refl
+
+-- the record that a move leaves to its party
+pub party-after : (m : Machine) (i : ℕ) → i < length (m .state .parties) → (moved : Moved) → partyOf (carried m i moved .after) i ≡ moved .party
+party-after m i h moved =
+    rw (same-parties (moved .access) (withParty (m .state) i (moved .party))) (getD-set-same (m .state .parties) i (moved .party) blank h)
 
 -- below their limit the tallies count what the deed counts
 module _ (st : State) (below-moves : st .moves < 4294967295) (below-won : st .won < 4294967295) (below-lost : st .lost < 4294967295) where
