@@ -80,7 +80,7 @@ demand3 t parties history g =
     (fewer parties (c .lost) (c .won) some (omega (arith, b .bound)), omega (arith, b .paid), b .moves, b .won, b .lost)
 
 pub rows : Rows
-rows t parties history g = let s = healthy t parties history g in rw (s .count) (balanced t parties history g .rows)
+rows t parties history g = let s = healthy t parties history g in rw (s .count) (omega (arith, balanced t parties history g .rows))
 
 -- places of the party table that no party uses are idle as well
 all-idle : (m : Machine) → Good m → length (m .state .parties) ≡ 16 → ((party : ℕ) → party < m .state .count → isIdle (partyOf m party .place) ≡ true) →

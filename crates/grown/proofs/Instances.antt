@@ -11,12 +11,11 @@ use Rattle.list.specs.Run.{run}
 use Rattle.world.specs.Keys.{has, extra}
 use Rattle.grown.specs.History.{acceptsAll}
 use Rattle.grown.specs.Deeds.{countsOf}
-use Rattle.grown.specs.Rest.{rowAfter}
 use Rattle.grown.specs.Answers.{callsNot}
 use Rattle.grown.specs.Instances.{Instances}
 
 pub instances : Instances
-unfolding run acceptsAll countsOf callsNot setUpOf callOf moveOf rises liveFrom goodForm kindsFit keysFit linksFit recordFits partiesFit bareCallOf begunOf bareMoveOf walkOf onwardOf landedAddOf landedRemoveOf landedContainsOf prepareOf skipOf addSwapOf markOf rereadOf cleanOf backOf lookOf rank has extra rowAfter
+unfolding run acceptsAll countsOf callsNot setUpOf callOf moveOf rises liveFrom goodForm kindsFit keysFit linksFit recordFits partiesFit bareCallOf begunOf bareMoveOf walkOf onwardOf landedAddOf landedRemoveOf landedContainsOf prepareOf skipOf addSwapOf markOf rereadOf cleanOf backOf lookOf rank has extra
 instances =
     record {
       run-of-01 = record { grows = record { set = refl; accepted = refl }; counts = refl };

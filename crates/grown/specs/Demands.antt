@@ -21,7 +21,7 @@ use Rattle.grown.specs.Deeds.{Deed, called, read, added, marked, cleaned
 
 -- ---- refused events
 
--- they leave no trace: with them or without them the list is the same, so what is said of accepted histories is said of all
+-- they leave no trace: a history with keys of 32 bits leaves the machine that its accepted events alone leave
 abbrev pub Heeded : Type 0
 Heeded = (m : Machine) (history : History) → keysFit history ≡ true → (run m history ≡ run m (heeded m history)) × Accepted m (heeded m history)
 
@@ -38,7 +38,7 @@ Kept = (t : Table) (parties : ℕ) (history : History) → Grows t parties histo
 abbrev pub Holds : Party → ℕ → Type 0
 Holds q row = (q .unpublished ≡ true) × (q .own ≡ row)
 
--- taken, and held by no party: only such rows are in the list or were in it
+-- taken, and held by no party
 abbrev pub Published : Machine → ℕ → Type 0
 Published m row = (row < m .state .taken) × ((party : ℕ) → Holds (partyOf m party) row → ⊥)
 
@@ -94,7 +94,7 @@ Demand3 = (t : Table) (parties : ℕ) (history : History) → Grows t parties hi
 abbrev pub rowsHeld : Machine → ℕ
 rowsHeld m = sum (λ party. oneIf (partyOf m party .unpublished)) (m .state .count)
 
--- document 01, "The moves", of T. No row is lost: each is an end, went into the list by an add swap or a mark swap, or is still held
+-- document 01, "The moves", of T: as many rows are taken as there are ends, add swaps and mark swaps won, and rows held
 abbrev pub Rows : Type 0
 Rows = (t : Table) (parties : ℕ) (history : History) → Grows t parties history →
     let m = grown t parties history in

@@ -24,7 +24,7 @@ abbrev pub isAccepted : Answer Said → Bool
 isAccepted (accepted said) = true
 isAccepted (refused number) = false
 
--- the engine does not refuse the event
+-- the key fits, and the engine does not refuse the event
 abbrev pub accepts : Machine → Event → Bool
 accepts m event = keyFits event && isAccepted (turnOf m event .answer)
 

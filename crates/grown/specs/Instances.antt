@@ -4,7 +4,7 @@ use Prim.Native.Nat.{ℕ, _+_, _-_, _*_}
 use mathlib.Core.List.{List, [], _∷_}
 use mathlib.Core.Bool.{true, false}
 use Rattle.moves.specs.declared.Said.the-variants.{No}
-use Rattle.rows.specs.Table.{nextAt, isSplice}
+use Rattle.rows.specs.Table.{nextAt}
 use Rattle.list.specs.Engine.{liveKeys, chainRises}
 use Rattle.list.specs.Run.{calls, moves}
 use Rattle.list.specs.Examples.{bare, collision}
@@ -12,7 +12,6 @@ use Rattle.world.specs.Keys.{has}
 use Rattle.grown.specs.History.{History, start, Grows, grown}
 use Rattle.grown.specs.Counts.{Counts, tally, withKeys}
 use Rattle.grown.specs.Deeds.{countsOf}
-use Rattle.grown.specs.Rest.{rowAfter}
 use Rattle.grown.specs.Answers.{Asked, called, found, Answered}
 
 -- the run of document 01: 2 calls, 10 moves, 2 swaps won, 1 lost; both won swaps are add swaps; 2 keys in, none out
@@ -69,7 +68,7 @@ pub record Leaves (history : History) (keys : List ℕ) (counts : Counts) : Type
   pub chain-then : chainRises (grown (bare 16) 2 history) ≡ true
   pub counts-then : countsOf (start (bare 16) 2) history ≡ counts
 
--- an ADD of a key that is being taken out goes in behind the removed row, not behind what p led to
+-- an ADD of a key that is being taken out leads its row on to what stands behind the removed row, not to the removed row
 abbrev pub overRemoved : History
 overRemoved =
     calls 0 0 5 ∷ moves 0 ∷ moves 0 ∷ moves 0 ∷ calls 0 1 5 ∷ moves 0 ∷ moves 0 ∷ moves 0 ∷ calls 1 0 5 ∷ moves 1 ∷ moves 1 ∷ moves 1 ∷ moves 1 ∷ []
@@ -103,8 +102,8 @@ pub record Traps : Type 0 where
   pub back-through : Leaves backThroughSplice (1 ∷ []) (withKeys 2 1 (tally 3 15 3 1 2 1))
   pub read-again : Leaves readAgain (3 ∷ []) (withKeys 2 1 (tally 3 12 3 1 2 1))
   pub found-again : Leaves foundAgain (0 ∷ []) (withKeys 2 1 (tally 3 14 4 1 2 1))
-  -- and no splice is left on the chain
-  pub cleaned-up : let t = grown (bare 16) 2 foundAgain .table in isSplice t (nextAt t (rowAfter t 1)) ≡ false
+  -- and then row 1 leads to the one key that is left, and that to row 2
+  pub cleaned-up : let t = grown (bare 16) 2 foundAgain .table in nextAt t (nextAt t 1) ≡ 2
 
 pub record Instances : Type 0 where
   pub run-of-01 : RunOf01
