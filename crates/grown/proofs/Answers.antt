@@ -24,7 +24,7 @@ use Rattle.world.specs.Keys.{has}
 use Rattle.grown.specs.History.{History, keyFits, isAccepted, accepts, acceptsAll, Accepted, start, grown}
 use Rattle.grown.specs.Answers.{Asked, call, called, found, Answered, Present, Excused, TakenOut, Answers}
 use Rattle.grown.proofs.Machine.{worldOf}
-use Rattle.grown.proofs.Does.{by-test}
+use Rattle.world.proofs.Cases.{by-test}
 use Rattle.grown.proofs.Listing.{keys-live, live-keys}
 use Rattle.grown.proofs.Replies.{Told, saidBy, move-reply}
 use Rattle.grown.proofs.Track.{Starts, removes, asks-for, no-missed, track-starts}

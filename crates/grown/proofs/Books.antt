@@ -27,7 +27,7 @@ use Rattle.form.specs.Form.{removing}
 use Rattle.chain.specs.Chain.{oneIf}
 use Rattle.world.specs.World.{World, Good}
 use Rattle.world.specs.Walk.{Walking}
-use Rattle.world.proofs.Swap.{by-row}
+use Rattle.world.proofs.Cases.{by-row}
 use Rattle.world.proofs.Walk.{at-c}
 use Rattle.grown.specs.Deeds.{Deed, called, read, added, marked, cleaned, lost, deedCounts}
 use Rattle.grown.proofs.Party.{At}

@@ -3,7 +3,7 @@
 use Prim.Native.Nat.{ℕ, zero, suc, _+_, _≤_, _<_}
 use mathlib.Core.Path.{_≡_, refl}
 use mathlib.Core.Logic.{_≢_}
-use mathlib.Core.Bool.{Bool, true, false, not, cond, _&&_, _||_, true≢false}
+use mathlib.Core.Bool.{true, false, not, cond, _&&_, _||_, true≢false}
 use native.Mathlib.Omega.{arith}
 use lib.Dec.{eqb}
 use borrow.Author.Tests.{ltb-true, ltb-false, eqb-true, eqb-false}
@@ -40,15 +40,11 @@ use Rattle.moves.specs.Moves.{
 }
 use Rattle.form.specs.Form.{isIdle}
 use Rattle.world.specs.World.{World}
+use Rattle.world.proofs.Cases.{by-test}
 use Rattle.grown.specs.Deeds.{Deed, read, added, marked, cleaned, lost, deedAt}
 use Rattle.grown.proofs.Party.{At}
 
 -- ---- what the tests say
-
--- a case for each outcome of a test
-pub by-test : (P : Bool → Type 0) (test : Bool) → (test ≡ true → P true) → (test ≡ false → P false) → P test
-by-test P true f g = f refl
-by-test P false f g = g refl
 
 end-ranked : (row : ℕ) → 0 < endRank row
 end-ranked zero = omega arith

@@ -30,7 +30,7 @@ use Rattle.list.proofs.Laws.{past-form, table-fits}
 use Rattle.list.proofs.Kept.{call-keeps, move-keeps}
 use Rattle.grown.specs.History.{isAccepted, accepts}
 use Rattle.grown.specs.Deeds.{called, deedOf}
-use Rattle.grown.proofs.Does.{by-test}
+use Rattle.world.proofs.Cases.{by-test}
 use Rattle.grown.proofs.Turn.{begun, Turn, moves as move-turn, spares, takes, asks}
 
 abbrev pub whose : Event → ℕ

@@ -13,7 +13,7 @@ use Rattle.list.specs.Run.{Event, calls, moves, quiet, turnOf, run}
 use Rattle.list.proofs.Promises.{refused-call-leaves, refused-move-leaves}
 use Rattle.grown.specs.History.{keyFits, isAccepted, accepts, acceptsAll, heeded, keysFit}
 use Rattle.grown.specs.Demands.{Heeded}
-use Rattle.grown.proofs.Does.{by-test}
+use Rattle.world.proofs.Cases.{by-test}
 
 -- an answer that is not accepted is a refusal
 call-stays : (m : Machine) (answer : Tests) (after : Machine) → ((number : ℕ) → answer ≡ refused number → after ≡ m) →

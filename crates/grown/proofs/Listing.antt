@@ -23,12 +23,12 @@ use Rattle.world.specs.Live.{Live}
 use Rattle.world.specs.Keys.{Rising, has}
 use Rattle.world.specs.Chain.{Chain, end, live, past, rowsAbove}
 use Rattle.world.proofs.World.{skip-pos, row-succ}
-use Rattle.world.proofs.Swap.{by-row}
+use Rattle.world.proofs.Cases.{by-row, by-test}
 use Rattle.world.proofs.Chain.{above-bound, above-drop, top-row, listed-rising, listed-live, live-listed}
 use Rattle.grown.specs.Demands.{LiveRow}
 use Rattle.grown.proofs.View.{Inv}
 use Rattle.grown.proofs.Machine.{viewOf, worldOf}
-use Rattle.grown.proofs.Does.{by-test, splice-rank, other-rank}
+use Rattle.grown.proofs.Does.{splice-rank, other-rank}
 
 -- ---- what a rank tells of its row
 

@@ -22,7 +22,8 @@ use Rattle.world.specs.World.{World, Good, Row, Marked, Open, Reach, stop, step
 use Rattle.world.specs.Extends.{Extends}
 use Rattle.world.specs.Live.{Change, still, gain, lose}
 use Rattle.world.proofs.World.{row-succ, succ-open, reach-linear, reach-snoc}
-use Rattle.world.proofs.Swap.{by-row, swing-over}
+use Rattle.world.proofs.Cases.{by-row}
+use Rattle.world.proofs.Swap.{swing-over}
 use Rattle.world.proofs.Extends.{row-ext}
 use Rattle.world.proofs.Walk.{at-c, walk-from, walk-on, walk-past, track-on, track-end}
 use Rattle.grown.specs.Deeds.{Deed, called, read, added, marked, cleaned, lost}

@@ -18,12 +18,12 @@ use Rattle.list.specs.Engine.{liveKeys}
 use Rattle.list.specs.Run.{Event, calls, moves, turnOf, run}
 use Rattle.world.specs.Live.{Live}
 use Rattle.world.specs.Keys.{has}
-use Rattle.world.proofs.Swap.{by-row}
+use Rattle.world.proofs.Cases.{by-row, by-test}
 use Rattle.grown.specs.History.{History, accepts, acceptsAll, Accepted}
 use Rattle.grown.specs.Deeds.{marked, deedOf}
 use Rattle.grown.specs.Answers.{callsNot}
 use Rattle.grown.proofs.Machine.{worldOf}
-use Rattle.grown.proofs.Does.{by-test, Does, does}
+use Rattle.grown.proofs.Does.{Does, does}
 use Rattle.grown.proofs.Listing.{keys-live}
 use Rattle.grown.proofs.Replies.{saidBy}
 use Rattle.grown.proofs.Track.{Tracks, track-turns}

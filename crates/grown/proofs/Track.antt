@@ -22,7 +22,7 @@ use Rattle.form.specs.Form.{isIdle}
 use Rattle.world.specs.World.{World, Open, Reach, Row, Good, succ}
 use Rattle.world.specs.Live.{Live, Change, gain, lose, Effect}
 use Rattle.world.proofs.World.{row-succ, succ-open}
-use Rattle.world.proofs.Swap.{by-row}
+use Rattle.world.proofs.Cases.{by-row}
 use Rattle.world.proofs.Walk.{at-c, track-on, track-ext}
 use Rattle.grown.specs.Deeds.{Deed}
 use Rattle.grown.proofs.Party.{At}

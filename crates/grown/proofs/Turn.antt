@@ -34,7 +34,7 @@ use Rattle.chain.specs.Chain.{oneIf}
 use Rattle.world.specs.World.{World}
 use Rattle.world.specs.Walk.{Walking}
 use Rattle.world.specs.Live.{still}
-use Rattle.world.proofs.Swap.{by-row}
+use Rattle.world.proofs.Cases.{by-row}
 use Rattle.world.proofs.Walk.{walking-ext, walk-start}
 use Rattle.grown.specs.Deeds.{Deed, called, read, added, marked, cleaned, lost, deedAt, deedCounts}
 use Rattle.grown.proofs.Party.{At}

@@ -13,7 +13,8 @@ use Rattle.world.specs.Writes.{Write, Fresh, Mark, Swing}
 use Rattle.world.specs.Extends.{Extends, Same}
 use Rattle.world.specs.Live.{Change, still, gain, lose, Effect}
 use Rattle.world.specs.Walk.{Key}
-use Rattle.world.proofs.Swap.{by-row, mark-good, swing-good, ahead, put-succ-v}
+use Rattle.world.proofs.Cases.{by-row}
+use Rattle.world.proofs.Swap.{mark-good, swing-good, ahead, put-succ-v}
 use Rattle.world.proofs.Extends.{same-good, same-next, same-ext, same-effect, mark-ext, swing-ext}
 use Rattle.world.proofs.Live.{mark-effect, add-effect, clean-effect}
 use Rattle.grown.specs.Demands.{Holds}

@@ -12,7 +12,7 @@ use Rattle.world.specs.Keys.{Rising, RisingFrom, has}
 use Rattle.world.specs.Live.{Live}
 use Rattle.world.specs.World.{Good, Open, Reach, Row, World, step, stop, succ}
 use Rattle.world.proofs.Keys.{has-cons, has-head, has-nil, has-tail}
-use Rattle.world.proofs.Swap.{by-row}
+use Rattle.world.proofs.Cases.{by-row}
 use Rattle.world.proofs.World.{row-succ, unique}
 
 module _ (f : ℕ → ℕ) where

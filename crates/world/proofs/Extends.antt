@@ -8,7 +8,8 @@ use Rattle.world.specs.Live.{Effect, Live, still}
 use Rattle.world.specs.World.{Chunk, Gone, Good, Marked, Open, Reach, Row, Sound, World, here, pass, step, stop, succ}
 use Rattle.world.specs.Writes.{Mark, Swing, Write, put}
 use Rattle.world.proofs.Live.{open-back}
-use Rattle.world.proofs.Swap.{by-row, mark-back, mark-reach, open-off, swing-back, swing-stays}
+use Rattle.world.proofs.Cases.{by-row}
+use Rattle.world.proofs.Swap.{mark-back, mark-reach, open-off, swing-back, swing-stays}
 use Rattle.world.proofs.World.{pub-succ, skip-cong}
 
 module _ {w w′ : World} (g : Good w) (t : Extends w w′) where

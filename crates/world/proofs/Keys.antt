@@ -5,17 +5,12 @@ use Prim.Native.Nat.{ℕ, suc, _≤_}
 use mathlib.Core.Path.{_≡_, refl, sym, subst, _∙_}
 use mathlib.Core.Logic.{_⊎_, inl, inr, ⊎-elim, ⊎-swap, _≢_}
 use mathlib.Core.List.{List, [], _∷_}
-use mathlib.Core.Bool.{Bool, true, false, cond, _||_, false≢true, true≢false, or-true}
+use mathlib.Core.Bool.{Bool, true, false, _||_, false≢true, true≢false, or-true}
 use native.Mathlib.Omega.{arith}
 use lib.Dec.{eqb, ltb}
 use borrow.Author.Tests.{ltb-true, ltb-false, eqb-true, eqb-false, eq-eqb}
 use Rattle.world.specs.Keys.{RisingFrom, extra, has, placed, without}
-use Rattle.world.proofs.Swap.{by-row}
-
--- what holds of a choice by a test: it is enough to prove it of each value, knowing what the test said
-pub on-cond : {A : Type 0} (P : A → Type 0) (b : Bool) (x y : A) → (b ≡ true → P x) → (b ≡ false → P y) → P (cond b x y)
-on-cond P true x y f g = f refl
-on-cond P false x y f g = g refl
+use Rattle.world.proofs.Cases.{by-row, on-cond}
 
 -- ---- what is in a list
 

@@ -7,7 +7,8 @@ use native.Mathlib.Omega.{arith}
 use Rattle.world.specs.Live.{Effect, Live, gain, lose, still}
 use Rattle.world.specs.World.{Good, Open, World}
 use Rattle.world.specs.Writes.{Fresh, Mark, Swing, put}
-use Rattle.world.proofs.Swap.{ahead, by-row, not-low, open-off, put-succ-v, swing-gap}
+use Rattle.world.proofs.Cases.{by-row}
+use Rattle.world.proofs.Swap.{ahead, not-low, open-off, put-succ-v, swing-gap}
 use Rattle.world.proofs.World.{unique}
 
 module _ {w : World} {f : ℕ → ℕ} {P : ℕ → Type 0} {c own : ℕ} (g : Good w) (m : Mark w f P c own) where

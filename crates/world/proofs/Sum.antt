@@ -5,7 +5,7 @@ use mathlib.Core.Path.{_≡_, refl, ap}
 use mathlib.Core.Logic.{_≢_}
 use native.Mathlib.Omega.{arith}
 use Rattle.world.specs.Sum.{sum}
-use Rattle.world.proofs.Swap.{by-row}
+use Rattle.world.proofs.Cases.{by-row}
 
 pub sum-zero : (f : ℕ → ℕ) (n : ℕ) → ((j : ℕ) → j < n → f j ≡ 0) → sum f n ≡ 0
 unfolding sum

@@ -4,17 +4,10 @@ use Prim.Native.Nat.{ℕ, _≤_, _<_}
 use mathlib.Core.Path.{_≡_, refl, sym, ap, subst, _∙_}
 use mathlib.Core.Logic.{_⊎_, inl, inr, _≢_}
 use native.Mathlib.Omega.{arith}
-use native.Mathlib.Decide.{ℕ-discrete}
 use Rattle.world.specs.World.{Chunk, Gone, Good, Marked, Open, Reach, Row, Sound, World, here, pass, step, stop, succ}
 use Rattle.world.specs.Writes.{Fresh, Mark, Swing, Write, put}
+use Rattle.world.proofs.Cases.{by-row}
 use Rattle.world.proofs.World.{chunk-reach, chunk-row, gap, not-first, reach-le, reach-linear, reach-snoc, row-succ, skip-cong, skip-pos, succ-open}
-
-pub by-row {ℓ} : {A : Type ℓ} (x p : ℕ) → (x ≡ p → A) → (x ≢ p → A) → A
-by-row {A = A} x p f g = go (ℕ-discrete x p)
-  where
-    go : Dec (x ≡ p) → A
-    go (yes e) = f e
-    go (no n) = g n
 
 module _ {w : World} {f : ℕ → ℕ} {P : ℕ → Type 0} {p v : ℕ} (s : Write w f P p v) where
   -- rows other than p have the successor that they had
