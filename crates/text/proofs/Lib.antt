@@ -1,0 +1,2 @@
+-- Why reading is as promised.
+pub mod Laws

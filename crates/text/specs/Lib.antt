@@ -1,0 +1,2 @@
+-- What is read at a place of a text.
+pub mod Reading
