@@ -1,0 +1,3 @@
+-- Why writing is as promised.
+pub mod Laws
+pub mod Room

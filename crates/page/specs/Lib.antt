@@ -1,0 +1,3 @@
+-- What is written into a lent buffer, and what is proved of it.
+pub mod Page
+pub mod Claims

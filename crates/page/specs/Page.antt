@@ -1,0 +1,39 @@
+-- Bytes written one after another into a buffer, and numbers in decimal.
+use mathlib.Core.Path.{_≡_}
+use mathlib.Core.List.{List, [], _∷_, _++_}
+use mathlib.Core.Bool.{cond}
+use Prim.Native.Nat.{ℕ, zero, suc, _+_, _/_, _%_}
+use lib.ListN.{length, set}
+use lib.Dec.{ltb}
+
+-- a buffer, and the place of the next byte
+pub record Page : Type 0 where
+  pub out : List ℕ
+  pub at : ℕ
+
+abbrev pub page : List ℕ → ℕ → Page
+page out at = record { out = out; at = at }
+
+-- one byte more; a full buffer stays as it is
+abbrev pub putByte : Page → ℕ → Page
+putByte p byte = cond (ltb (p .at) (length (p .out))) (page (set (p .out) (p .at) byte) (p .at + 1)) p
+
+-- bytes one after another
+unfoldable pub put : Page → List ℕ → Page
+put p [] = p
+put p (byte ∷ rest) = put (putByte p byte) rest
+
+-- one page comes from another by writing these bytes, and nothing else
+pub record Wrote (before : Page) (bytes : List ℕ) (after : Page) : Type 0 where
+  pub path : after ≡ put before bytes
+
+-- ---- numbers
+
+-- the digits of a number without leading zeros, at most so many
+unfoldable pub digits : (most n : ℕ) → List ℕ
+digits zero n = []
+digits (suc most) n = cond (ltb n 10) ((48 + n) ∷ []) (digits most (n / 10) ++ ((48 + n % 10) ∷ []))
+
+-- twenty are enough for every number of 64 bits (`DecimalIsWhole` in Claims)
+abbrev pub decimal : ℕ → List ℕ
+decimal n = digits 20 n
