@@ -1,0 +1,2 @@
+-- Why the lines are written as promised.
+pub mod Laws

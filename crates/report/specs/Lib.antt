@@ -1,0 +1,2 @@
+-- What each line of the output reads.
+pub mod Lines

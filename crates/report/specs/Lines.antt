@@ -1,0 +1,82 @@
+-- The lines of a schedule's output (document 01, "The schedule program"): all numbers and keys in decimal.
+use mathlib.Core.List.{List, [], _∷_, _++_}
+use Prim.Native.Nat.{ℕ}
+use Rattle.text.specs.Reading.{bytes}
+use Rattle.page.specs.Page.{decimal}
+use Rattle.refusal.specs.Answer.{Answer, accepted, refused}
+use Rattle.party.specs.declared.Call.{Call}
+use Rattle.party.specs.declared.Call.the-variants.{Add, Remove, Contains}
+use Rattle.party.specs.declared.Place.{Place}
+use Rattle.party.specs.declared.Place.the-variants.{Idle, Walk, Skip, AddSwap, Mark, Reread, Clean, Back, Look}
+use Rattle.party.specs.declared.State.{State}
+use Rattle.moves.specs.declared.Said.{Said}
+use Rattle.moves.specs.declared.Said.the-variants.{Nothing, Yes, No}
+use Rattle.report.specs.declared.Asked.{Asked}
+
+-- ---- answers and refusals
+
+abbrev pub asked : Call → (key : ℕ) → Asked
+asked call key = record { call = call; key = key }
+
+-- what a party was asked; an idle one nothing (and nothing is answered there)
+abbrev pub askedAt : Place → Asked
+askedAt Idle = asked Contains 0
+askedAt (Walk call key) = asked call key
+askedAt (Skip call key) = asked call key
+askedAt (AddSwap call key) = asked call key
+askedAt (Mark call key) = asked call key
+askedAt (Reread call key) = asked call key
+askedAt (Clean call key) = asked call key
+askedAt (Back call key) = asked call key
+askedAt (Look call key) = asked call key
+
+unfoldable pub callName : Call → List ℕ
+callName Add = bytes "add"
+callName Remove = bytes "remove"
+callName Contains = bytes "contains"
+
+-- call key
+unfoldable pub askedText : Asked → List ℕ
+askedText a = callName (a .call) ++ bytes " " ++ decimal (a .key)
+
+-- answer=P call key yes|no
+unfoldable pub answerLine : (party : ℕ) → Asked → (word : List ℕ) → List ℕ
+answerLine party a word = bytes "answer=" ++ decimal party ++ bytes " " ++ askedText a ++ bytes " " ++ word ++ bytes "\n"
+
+-- refused=line number
+unfoldable pub refusedLine : (line number : ℕ) → List ℕ
+refusedLine line number = bytes "refused=" ++ decimal line ++ bytes " " ++ decimal number ++ bytes "\n"
+
+-- an answer is printed as it falls
+unfoldable pub heard : (party : ℕ) → Place → Said → List ℕ
+heard party place Nothing = []
+heard party place Yes = answerLine party (askedAt place) (bytes "yes")
+heard party place No = answerLine party (askedAt place) (bytes "no")
+
+-- what the line of this number gives rise to; the party stood at the place before
+unfoldable pub saidBy : (line party : ℕ) → Place → Answer Said → List ℕ
+saidBy line party place (accepted said) = heard party place said
+saidBy line party place (refused number) = refusedLine line number
+
+-- ---- the closing lines
+
+-- a word, a number and LF
+unfoldable pub numbered : (word : List ℕ) → ℕ → List ℕ
+numbered word n = word ++ decimal n ++ bytes "\n"
+
+abbrev pub keyLine : ℕ → List ℕ
+keyLine key = numbered (bytes "key=") key
+
+unfoldable pub keyLines : List ℕ → List ℕ
+keyLines [] = []
+keyLines (key ∷ rest) = keyLine key ++ keyLines rest
+
+unfoldable pub tallyLines : State → List ℕ
+tallyLines st =
+    numbered (bytes "moves=") (st .moves) ++ numbered (bytes "won=") (st .won) ++ numbered (bytes "lost=") (st .lost)
+    ++ numbered (bytes "taken=") (st .taken)
+
+-- ---- a text that breaks the rules
+
+abbrev pub badLine : ℕ → List ℕ
+badLine line = numbered (bytes "bad=") line
