@@ -1,6 +1,6 @@
 -- Writing on, and the digits of a number.
 -- Assumes nothing.
-use mathlib.Core.Path.{_≡_, refl, ap, sym, _∙_}
+use mathlib.Core.Path.{sym, _≡_, refl, ap, _∙_}
 use mathlib.Core.List.{List, [], _∷_, _++_}
 use Prim.Native.Nat.{ℕ, zero, suc, _+_, _-_, _/_, _%_, _<_, _≤_}
 use native.Mathlib.Nat.{not-suc-le-zero}
@@ -56,3 +56,7 @@ module _ (p : Page) (n : ℕ) where
   unfolding digits
   digits-more zero z h = absurd (not-suc-le-zero z)
   digits-more (suc k) z h = simp (le-ltb _ _ h, sub-one) (put-one _ _ ∙ put-put _ _ _)
+
+-- the same bytes written to the same page leave one buffer and one place
+pub one-page : {p : Page} {bytes : List ℕ} {q r : Page} → Wrote p bytes q → Wrote p bytes r → q ≡ r
+one-page e f = e .path ∙ sym (f .path)

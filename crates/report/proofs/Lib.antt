@@ -1,2 +1,3 @@
 -- Why the lines are written as promised.
 pub mod Laws
+pub mod Determined

@@ -1,7 +1,7 @@
 -- One byte of a word: what the loop over its bytes needs.
 -- Assumes nothing.
-use mathlib.Core.Path.{_≡_, refl, ap, sym, _∙_}
-use mathlib.Core.List.{List, [], _∷_}
+use mathlib.Core.Path.{_≡_}
+use mathlib.Core.List.{List}
 use Prim.Native.Nat.{ℕ, _+_, _<_, _≤_}
 use native.Mathlib.Numerals.{add-one}
 use lib.ListN.{length, getD, drop, drop-of-length-le}
@@ -18,6 +18,7 @@ module _ (text : List ℕ) (at : ℕ) (w : List ℕ) (i : ℕ) where
   unfolding word
   word-off h e = rw (drop-cons w i 0, ne-eqb (byteAt text at) (getD w i 0) e)
 
-  pub word-on : i < length w → byteAt text at ≡ getD w i 0 → word text at (drop i w) ≡ word text (placeAfter text at) (drop (i + 1) w)
+  pub word-on : i < length w → byteAt text at ≡ getD w i 0 →
+      word text at (drop i w) ≡ word text (placeAfter text at) (drop (i + 1) w)
   unfolding word
   word-on h e = rw (add-one i, drop-cons w i 0, eq-eqb (byteAt text at) (getD w i 0) e)

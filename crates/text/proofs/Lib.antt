@@ -1,2 +1,3 @@
--- Why reading is as promised.
+-- Why reading is as promised, and that the contracts leave no choice.
 pub mod Laws
+pub mod Determined

@@ -3,7 +3,7 @@
 use Prim.Native.Nat.{ℕ, _<_, _+_, _%_}
 use borrow.Author.Needs.{needs}
 use native.Mathlib.Omega.{arith}
-use mathlib.Core.Path.{_≡_, refl, sym, _∙_, ap}
+use mathlib.Core.Path.{_∙_, ap}
 use Rattle.page.specs.Page.{Page, page, put, putByte}
 use Rattle.page.proofs.Laws.{digits-none, digits-one, digits-more}
 use borrow.Fn.Kinds.{In}
@@ -26,47 +26,39 @@ abbrev put-digits-below : ℕ → In 1 put-digits-kinds.ps
 put-digits-below t =
     and 1 put-digits-kinds.ps (falls 1 put-digits-kinds.ps _<_ μ-put-digits t) put-digits.Pre
 
-put-digits-returns : (t : ℕ) → put-digits-lts.Need-returns (
-  put-byte-reads.Asked,
-  put-byte-reads.Learnt,
-  put-digits-below t,
-  put-digits.Post,
-) (put-digits-at t) put-digits.Post
-put-digits-returns t c = let a = c .before .before .args in record { path = digits-none (page (a .out .now) (a .at)) (a .n) (a .most) (c .if1 .taken) }
+-- what is known of the two functions that are called: of this one for fewer digits only
+abbrev called : ℕ → put-digits-lts.Claims
+called t = (put-byte-reads.Asked, put-byte-reads.Learnt, put-digits-below t, put-digits.Post)
 
-put-digits-returns-2 : (t : ℕ) → put-digits-lts.Need-returns-2 (
-  put-byte-reads.Asked,
-  put-byte-reads.Learnt,
-  put-digits-below t,
-  put-digits.Post,
-) (put-digits-at t) put-digits.Post
+put-digits-returns : (t : ℕ) → put-digits-lts.Need-returns (called t) (put-digits-at t) put-digits.Post
+put-digits-returns t c =
+    let a = c .before .before .args in
+    record { path = digits-none (page (a .out .now) (a .at)) (a .n) (a .most) (c .if1 .taken) }
+
+put-digits-returns-2 : (t : ℕ) → put-digits-lts.Need-returns-2 (called t) (put-digits-at t) put-digits.Post
 unfolding put
-put-digits-returns-2 t c = let a = c .before .before .before .before .before .before .before .args in record { path = c .before .before .put-byte .ensures .path ∙ digits-one (page (a .out .now) (a .at)) (a .n) (a .most) (omega arith) (omega arith) }
+put-digits-returns-2 t c =
+    let a = c .before .before .before .before .before .before .before .args in
+    let one = digits-one (page (a .out .now) (a .at)) (a .n) (a .most) (omega arith) (omega arith) in
+    record { path = c .before .before .put-byte .ensures .path ∙ one }
 
-put-digits-put-digits-requires : (t : ℕ) → put-digits-lts.Need-put-digits-requires (
-  put-byte-reads.Asked,
-  put-byte-reads.Learnt,
-  put-digits-below t,
-  put-digits.Post,
-) (put-digits-at t) put-digits.Post
+put-digits-put-digits-requires : (t : ℕ) → put-digits-lts.Need-put-digits-requires (called t) (put-digits-at t) put-digits.Post
 put-digits-put-digits-requires t c κs = (omega (arith, c .before .before .before .before .pre .0), tt)
 
-put-digits-returns-3 : (t : ℕ) → put-digits-lts.Need-returns-3 (
-  put-byte-reads.Asked,
-  put-byte-reads.Learnt,
-  put-digits-below t,
-  put-digits.Post,
-) (put-digits-at t) put-digits.Post
+put-digits-returns-3 : (t : ℕ) → put-digits-lts.Need-returns-3 (called t) (put-digits-at t) put-digits.Post
 unfolding put
-put-digits-returns-3 t c = let d = c .before .before in let g = d .before .before .before .before in let a = g .before .before .before .before .before .args in record { path = d .put-byte2 .ensures .path ∙ ap (λ (p : Page). putByte p (48 + a .n % 10)) (g .put-digits .ensures .path) ∙ digits-more (page (a .out .now) (a .at)) (a .n) (a .most) (omega arith) (omega arith) }
+put-digits-returns-3 t c =
+    let d = c .before .before in
+    let g = d .before .before .before .before in
+    let a = g .before .before .before .before .before .args in
+    let more = digits-more (page (a .out .now) (a .at)) (a .n) (a .most) (omega arith) (omega arith) in
+    let last = ap (λ (p : Page). putByte p (48 + a .n % 10)) (g .put-digits .ensures .path) in
+    record { path = d .put-byte2 .ensures .path ∙ last ∙ more }
 
 pub +put-digits-spec : {M : Type 1} → statement M
-+put-digits-spec = close μ-put-digits λ t. put-digits-lts.spec (
-  put-byte-reads.Asked,
-  put-byte-reads.Learnt,
-  put-digits-below t,
-  put-digits.Post,
-)
++put-digits-spec =
+    close μ-put-digits λ t. put-digits-lts.spec
+    (called t)
     (put-digits-at t)
     put-digits.Post
     (put-digits-returns t)

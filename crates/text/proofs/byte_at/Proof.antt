@@ -3,11 +3,12 @@
 use mathlib.Core.Path.{sym}
 use lib.ListN.{List·getD-eq-default}
 use borrow.Author.Needs.{needs}
+use native.Mathlib.Omega.{arith}
 use Rattle.text.proofs.byte_at.Statement.{statement}
 use Rattle.text.proofs.byte_at.Tie as tie
 
 returns-2 : tie.Need-returns-2
-returns-2 c = sym (List·getD-eq-default (c .before .args .text .now) 0 (c .if1 .left))
+returns-2 c = sym (List·getD-eq-default (c .before .args .text .now) 0 (omega arith))
 
 pub byte-at-spec : {M : Type 1} → statement M
 byte-at-spec = tie.close

@@ -3,20 +3,36 @@
 use borrow.Author.Tests.{lt-ltb, le-ltb, eq-eqb, ne-eqb}
 use Rattle.text.specs.Reading.{nextDigit}
 use borrow.Author.Needs.{needs}
+use native.Mathlib.Omega.{arith}
 use Rattle.text.proofs.next_digit.Statement.{statement}
 use Rattle.text.proofs.next_digit.Tie as tie
 
 returns : tie.Need-returns
 unfolding nextDigit
-returns c = simp (eq-eqb _ _ (c .if1 .taken))
+returns c = simp (eq-eqb (c .before .before .args .n .value) 0 (omega arith))
 
 returns-2 : tie.Need-returns-2
 unfolding nextDigit
-returns-2 c = let d = c .before .before in let f = d .before .before in let k = simp (d .digit .ensures, d .before .byte-at .ensures) at (lt-ltb _ _ (c .before .if3 .taken)) in simp (k, lt-ltb _ _ (f .if2 .taken), ne-eqb _ _ (f .before .if1 .left), d .digit .ensures, d .before .byte-at .ensures, c .place-after .ensures)
+returns-2 c =
+    let d = c .before .before in
+    let f = d .before .before in
+    let k = simp (d .digit .ensures, d .before .byte-at .ensures) at (lt-ltb _ _ (c .before .if3 .taken)) in
+    simp (
+      k,
+      lt-ltb _ _ (f .if2 .taken),
+      ne-eqb _ _ (f .before .if1 .left),
+      d .digit .ensures,
+      d .before .byte-at .ensures,
+      c .place-after .ensures,
+    )
 
 returns-3 : tie.Need-returns-3
 unfolding nextDigit
-returns-3 c = let d = c .before in let f = d .before .before in let k = simp (d .digit .ensures, d .before .byte-at .ensures) at (le-ltb _ _ (c .if3 .left)) in simp (k, lt-ltb _ _ (f .if2 .taken), ne-eqb _ _ (f .before .if1 .left))
+returns-3 c =
+    let d = c .before in
+    let f = d .before .before in
+    let k = simp (d .digit .ensures, d .before .byte-at .ensures) at (le-ltb _ _ (c .if3 .left)) in
+    simp (k, lt-ltb _ _ (f .if2 .taken), ne-eqb _ _ (f .before .if1 .left))
 
 returns-4 : tie.Need-returns-4
 unfolding nextDigit

@@ -20,13 +20,26 @@ loop-holds : tie.Need-loop-holds Inv-loop μ-loop
 loop-holds c = (omega arith, refl)
 
 returns : tie.Need-returns Inv-loop μ-loop
-returns c = let m = c .before .before .before .before in let a = m .before .before .before .args in sym (m .loop .inv .1 ∙ word-off (a .text .now) (m .loop .here) (a .wanted .now) (m .loop .i) (omega arith) (rw (c .before .before .byte-at .ensures) at (c .if1 .taken)))
+returns c =
+    let m = c .before .before .before .before in
+    let a = m .before .before .before .args in
+    let differs = rw (c .before .before .byte-at .ensures) at (c .if1 .taken) in
+    sym (m .loop .inv .1 ∙ word-off (a .text .now) (m .loop .here) (a .wanted .now) (m .loop .i) (omega arith) differs)
 
 loop-again : tie.Need-loop-again Inv-loop μ-loop
-loop-again c = let m = c .before .before .before .before .before in let a = m .before .before .before .args in (omega arith, m .loop .inv .1 ∙ word-on (a .text .now) (m .loop .here) (a .wanted .now) (m .loop .i) (omega arith) (rw (c .before .before .before .byte-at .ensures) at (c .before .if1 .left)) ∙ ap (λ r. word (a .text .now) r (drop (m .loop .i + 1) (a .wanted .now))) (sym (c .place-after .ensures)))
+loop-again c =
+    let m = c .before .before .before .before .before in
+    let a = m .before .before .before .args in
+    let same = rw (c .before .before .before .byte-at .ensures) at (c .before .if1 .left) in
+    let one = word-on (a .text .now) (m .loop .here) (a .wanted .now) (m .loop .i) (omega arith) same in
+    let on = ap (λ r. word (a .text .now) r (drop (m .loop .i + 1) (a .wanted .now))) (sym (c .place-after .ensures)) in
+    (omega arith, m .loop .inv .1 ∙ one ∙ on)
 
 returns-2 : tie.Need-returns-2 Inv-loop μ-loop
-returns-2 c = let m = c .before in let a = m .before .before .before .args in sym (m .loop .inv .1 ∙ word-end (a .text .now) (m .loop .here) (a .wanted .now) (m .loop .i) (omega arith))
+returns-2 c =
+    let m = c .before in
+    let a = m .before .before .before .args in
+    sym (m .loop .inv .1 ∙ word-end (a .text .now) (m .loop .here) (a .wanted .now) (m .loop .i) (omega arith))
 
 pub word-spec : {M : Type 1} → statement M
 word-spec =

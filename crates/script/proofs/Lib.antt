@@ -1,0 +1,5 @@
+-- The turns of a body, that every reading leads on, that the turns are enough, and that the contracts leave no choice.
+pub mod Laws
+pub mod Reach
+pub mod Progress
+pub mod Determined

@@ -1,0 +1,2 @@
+-- Why a number that was written is read back.
+pub mod Spelled

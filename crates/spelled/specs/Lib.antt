@@ -1,0 +1,2 @@
+-- What reading makes of a number that was written.
+pub mod Spelled
