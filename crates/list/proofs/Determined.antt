@@ -43,7 +43,7 @@ after-told t₁ t₂ state₁ state₂ verdict₁ verdict₂ e =
 abbrev step-of : State → Reply → Stepped
 step-of state reply = record { state = state; reply = reply }
 
-step-told : (t₁ t₂ : Table) (state₁ state₂ : State) (reply₁ reply₂ : Reply) → stepIs t₁ (step-of state₁ reply₁) ≡ stepIs t₂ (step-of state₂ reply₂) →
+pub step-told : (t₁ t₂ : Table) (state₁ state₂ : State) (reply₁ reply₂ : Reply) → stepIs t₁ (step-of state₁ reply₁) ≡ stepIs t₂ (step-of state₂ reply₂) →
     _≡_ {A = Table × Stepped} (t₁, step-of state₁ reply₁) (t₂, step-of state₂ reply₂)
 step-told t₁ t₂ state₁ state₂ reply₁ reply₂ e =
     let columns : t₁ ≡ t₂ = ap (λ (l : Left Machine Said). l .memory .table) e in

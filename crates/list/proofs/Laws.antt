@@ -14,7 +14,7 @@ use Rattle.refusal.specs.declared.Verdict.{Verdict}
 use Rattle.refusal.specs.declared.Verdict.the-variants.{Accepted, Refused}
 use Rattle.refusal.specs.Number.{numberOf}
 use Rattle.refusal.specs.Answer.{accepted, refused, Left, left, Tests, passed, refusing, leaving, verdictIs}
-use Rattle.refusal.proofs.Laws.{past-test}
+use Rattle.refusal.proofs.Laws.{past-test, leaves-changed, leaves-found}
 use Rattle.refusal.proofs.Told.{tests-told}
 use Rattle.columns.specs.Column.{zeros}
 use Rattle.rows.specs.Table.{Table, tab}
@@ -39,14 +39,6 @@ pub past-remove : (code : ℕ) → (code ≡ 0 → ⊥) → (code ≡ 1 → ⊥)
 past-remove zero a b = absurd (a refl)
 past-remove (suc zero) a b = absurd (b refl)
 past-remove (suc (suc more)) a b = refl
-
--- what an entry point leaves where its tests pass, and where they refuse
-leaves-changed : {M A : Type 0} (tests : Tests) (found : M) (changed : Left M A) → tests ≡ passed → changed ≡ leaving tests found changed
-leaves-changed tests found changed passes = rw passes
-
-leaves-found : {M A : Type 0} (tests : Tests) (found : M) (changed : Left M A) {number : ℕ} →
-    tests ≡ refused number → left found (refused number) ≡ leaving tests found changed
-leaves-found tests found changed stops = rw stops
 
 -- what the code's two verdicts tell of the tests
 form-told : (m : Machine) (asked : Verdict) {verdict found : Verdict} {asks : Tests} →

@@ -4,7 +4,7 @@ use mathlib.Core.Path.{_≡_, refl, sym}
 use mathlib.Core.Bool.{Bool, true, false}
 use Prim.Native.Nat.{ℕ}
 use native.Mathlib.Omega.{arith}
-use Rattle.refusal.specs.Answer.{accepted, refused, Left, Tests, passed, refusing, answering, leaving}
+use Rattle.refusal.specs.Answer.{accepted, refused, Left, left, Tests, passed, refusing, answering, leaving}
 
 -- nothing is both accepted and refused
 pub not-both : {A : Type 0} {value : A} {number : ℕ} → accepted value ≡ refused number → ⊥
@@ -24,3 +24,11 @@ answer-past (refused number) value answer e = absurd (not-both (sym e))
 pub change-past : {M A : Type 0} (tests : Tests) (found : M) (changed : Left M A) (value : A) → leaving tests found changed .answer ≡ accepted value → tests ≡ passed
 change-past (accepted done) found changed value e = refl
 change-past (refused number) found changed value e = absurd (not-both (sym e))
+
+-- what an entry point leaves where its tests pass, and where they refuse
+pub leaves-changed : {M A : Type 0} (tests : Tests) (found : M) (changed : Left M A) → tests ≡ passed → changed ≡ leaving tests found changed
+leaves-changed tests found changed passes = rw passes
+
+pub leaves-found : {M A : Type 0} (tests : Tests) (found : M) (changed : Left M A) {number : ℕ} →
+    tests ≡ refused number → left found (refused number) ≡ leaving tests found changed
+leaves-found tests found changed stops = rw stops

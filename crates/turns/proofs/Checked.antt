@@ -1,0 +1,28 @@
+-- On good form a turn is the checked one.
+-- Assumes nothing.
+use Prim.{Unit}
+use mathlib.Core.Path.{_≡_, refl, ap, sym, _∙_}
+use Rattle.refusal.specs.Answer.{accepted, refused, Left, left, Tests, passed, leaving}
+use Rattle.moves.specs.declared.Said.{Said}
+use Rattle.bare.specs.Bare.{Machine, bareCallOf}
+use Rattle.form.specs.Form.{rowsIn}
+use Rattle.list.specs.Engine.{callNamed, callAsks}
+use Rattle.list.specs.Run.{calls, moves, quiet, going}
+use Rattle.list.proofs.Promises.{call-is-bare, move-is-bare}
+use Rattle.turns.specs.Turns.{plainTurn}
+use Rattle.turns.specs.Claims.{PlainIsChecked}
+
+-- a call as an event
+abbrev heard : Left Machine (Unit {0}) → Left Machine Said
+heard l = record { memory = l .memory; answer = quiet (l .answer) }
+
+heard-leaving : (tests : Tests) (found changed : Machine) → leaving tests found (left changed going) ≡ heard (leaving tests found (left changed passed))
+heard-leaving (accepted done) found changed = refl
+heard-leaving (refused number) found changed = refl
+
+pub plain-is-checked : PlainIsChecked
+unfolding plainTurn
+plain-is-checked m (calls party code key) fits good =
+    heard-leaving (callAsks (m .state) (rowsIn (m .table)) party code) m (bareCallOf m party (callNamed code) key)
+    ∙ sym (ap heard (call-is-bare m party code key fits good))
+plain-is-checked m (moves party) fits good = sym (move-is-bare m party fits good)
