@@ -1,3 +1,4 @@
 -- Why reading is as promised, and that the contracts leave no choice.
 pub mod Laws
+pub mod Bytes
 pub mod Determined

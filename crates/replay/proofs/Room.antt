@@ -1,0 +1,80 @@
+-- How long an output can be.
+-- Assumes nothing.
+use mathlib.Core.Path.{_≡_, refl, ap, sym, _∙_}
+use mathlib.Core.Bool.{Bool, true, false, cond}
+use mathlib.Core.List.{List, [], _∷_, _++_}
+use Prim.Native.Nat.{ℕ, zero, suc, _+_, _*_, _/_, _<_, _≤_}
+use native.Mathlib.Omega.{arith}
+use lib.ListN.{length, drop, length-append}
+use lib.Dec.{ltb}
+use borrow.Author.Tests.{ltb-false}
+use Rattle.bare.specs.Bare.{Machine, partyOf}
+use Rattle.list.specs.Engine.{liveKeys}
+use Rattle.list.specs.Run.{turnOf, fresh}
+use Rattle.text.specs.Reading.{bytes}
+use Rattle.page.specs.Page.{Page, page, Wrote}
+use Rattle.page.proofs.Room.{room}
+use Rattle.report.specs.Lines.{badLine}
+use Rattle.report.proofs.Room.{said-short, numbered-short, keys-short, tallies-short}
+use Rattle.script.specs.declared.Line.{Line}
+use Rattle.script.specs.Lines.{lineAt, endsBody, nextOf}
+use Rattle.script.specs.Head.{headOf}
+use Rattle.script.specs.Body.{mostLines, bodyFrom, bodyOf, firstBad}
+use Rattle.turns.specs.Turns.{partyIn, lineTurn}
+use Rattle.world.proofs.Cases.{on-cond}
+use Rattle.replay.specs.Output.{checked, lineSays, answersFrom, lastOf, closing, played, judged, outputBy, outputOf}
+use Rattle.replay.specs.Claims.{OutputFits, WholeOutput}
+use Rattle.replay.proofs.Sound.{Sound, few-keys}
+use Rattle.replay.proofs.Same.{body-fits, run-same}
+use Rattle.replay.proofs.Judged.{head-good, sound-fresh}
+
+-- ---- all lines
+
+answers-short : (order : ℕ) (m : Machine) (seen : ℕ) (lines : List Line) → length (answersFrom turnOf order m seen lines) ≤ 62 * length lines
+unfolding answersFrom lineSays
+answers-short order m seen [] = omega arith
+answers-short order m seen (line ∷ rest) =
+    simp length-append
+    (omega (arith, said-short (seen + 4) (partyIn line) (partyOf m (partyIn line) .place) (lineTurn turnOf order m line .answer), answers-short order (lineTurn turnOf order m line .memory) (seen + 1) rest))
+
+body-short : (text : List ℕ) (at left : ℕ) → length (bodyFrom text at left) ≤ left
+unfolding bodyFrom
+body-short text at zero = omega arith
+body-short text at (suc left) =
+    on-cond (λ (l : List Line). length l ≤ suc left) (endsBody (lineAt text at)) [] (lineAt text at ∷ bodyFrom text (nextOf (lineAt text at)) left)
+    (λ e. omega arith) (λ e. omega (arith, body-short text (nextOf (lineAt text at)) left))
+
+-- ---- the closing lines
+
+closing-short : (m : Machine) → Sound m → length (closing checked m) ≤ 102505
+unfolding closing
+closing-short m s = simp length-append (omega (arith, keys-short (liveKeys m), few-keys m s, tallies-short (m .state)))
+
+-- ---- the output
+
+bad-short : (line : ℕ) → length (badLine line) ≤ 786432
+bad-short line = omega (arith, numbered-short (bytes "bad=") line)
+
+module _ (text : List ℕ) (short : length text ≤ 65536) where
+  judged-short : (bad : ℕ) → firstBad text (headOf text) ≡ bad → length (judged checked text (headOf text) bad) ≤ 786432
+  unfolding mostLines
+  judged-short zero good =
+      let head = headOf text in
+      let m = fresh (head .nodes) (head .parties) in
+      let lines = bodyOf text head in
+      let run = run-same (head .order) m 0 lines (sound-fresh text short (head-good text head good)) (body-fits text (head .next) (mostLines text)) in
+      simp length-append
+      (omega (arith, short, answers-short (head .order) m 0 lines, body-short text (head .next) (length text / 6), closing-short (lastOf turnOf (head .order) m lines) (run .sound)))
+  judged-short (suc line) bad = bad-short (suc line)
+
+pub output-fits : OutputFits
+unfolding outputBy
+output-fits text =
+    on-cond (λ (l : List ℕ). length l ≤ 786432) (ltb 65536 (length text)) (badLine 0) (judged checked text (headOf text) (firstBad text (headOf text)))
+    (λ e. bad-short 0) (λ e. judged-short text (ltb-false 65536 (length text) e) (firstBad text (headOf text)) refl)
+
+pub whole-output : WholeOutput
+whole-output text out after enough wrote =
+    let fits = output-fits text in
+    let start : 0 + length (outputOf text) ≡ length (outputOf text) = omega arith in
+    rw start at (room out (outputOf text) 0 after (omega (arith, fits)) wrote)
