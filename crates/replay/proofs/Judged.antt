@@ -65,8 +65,14 @@ set-up-passes : (rows parties : ℕ) → 4 ≤ rows → rows ≤ 4096 → 1 ≤ 
     setUpOf (tab (zeros rows) (zeros rows) (zeros rows) (zeros rows)) parties .answer ≡ passed
 unfolding setUpOf
 set-up-passes rows parties low high some few =
-    rw (length-replicate {A = ℕ} rows 0, eq-eqb rows rows refl, le-leb 4 rows low, le-leb rows 4096 high, ne-eqb parties 0 (λ z. omega arith),
-    le-ltb 16 parties few)
+    rw (
+      length-replicate {A = ℕ} rows 0,
+      eq-eqb rows rows refl,
+      le-leb 4 rows low,
+      le-leb rows 4096 high,
+      ne-eqb parties 0 (λ z. omega arith),
+      le-ltb 16 parties few,
+    )
 
 module _ (text : List ℕ) (short : length text ≤ 65536) (good : headOf text .bad ≡ 0) where
   pub rows-fit : headOf text .nodes ≤ 4096

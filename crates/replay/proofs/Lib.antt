@@ -4,3 +4,5 @@ pub mod Sound
 pub mod Same
 pub mod Judged
 pub mod Room
+pub mod Examples
+pub mod Determined

@@ -57,7 +57,10 @@ fn run_line(
     let after = done.state;
     let reply = done.reply;
     let on = put_reply(out, to, number, party, place, reply);
-    Turn { state: after, to: on }
+    Turn {
+        state: after,
+        to: on,
+    }
 }
 
 // One line for each key that a listing gives. (In a list that a schedule has grown it is never refused: `ListingStands`.)

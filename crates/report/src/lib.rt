@@ -22,7 +22,10 @@ fn asked_at(place: Place) -> Asked
     ensures { λ r. ⌜ r ≡ askedAt place ⌝ }
 {
     match place {
-        Place::Idle => Asked { call: Call::Contains, key: 0 },
+        Place::Idle => Asked {
+            call: Call::Contains,
+            key: 0,
+        },
         Place::Walk(call, key) => Asked { call, key },
         Place::Skip(call, key) => Asked { call, key },
         Place::AddSwap(call, key) => Asked { call, key },
@@ -91,7 +94,14 @@ fn put_heard(out: &mut [u8], to: usize, party: u32, place: Place, said: Said) ->
 }
 
 // What is printed for the line of this number, by which a party that stood at the place was moved or called.
-pub fn put_reply(out: &mut [u8], to: usize, line: usize, party: u32, place: Place, reply: Reply) -> usize
+pub fn put_reply(
+    out: &mut [u8],
+    to: usize,
+    line: usize,
+    party: u32,
+    place: Place,
+    reply: Reply,
+) -> usize
     ensures { λ r. ⌜ Wrote (page (now (out .entry)) to) (saidBy line party place (replyIs reply)) (page (now (out .exit)) r) ⌝ }
 {
     match reply {

@@ -23,14 +23,14 @@ module _ (text : List ℕ) (seen at : ℕ) where
 
   -- neither call nor step: this line decides
   pub bad-stop : (left : ℕ) → 0 < left → endsBody (lineAt text at) ≡ true
-    → badFrom text seen at left ≡ lastBad seen (lineAt text at) (length text)
+      → badFrom text seen at left ≡ lastBad seen (lineAt text at) (length text)
   unfolding badFrom
   bad-stop zero h e = absurd (not-suc-le-zero h)
   bad-stop (suc k) h e = rw e
 
   -- a call or a step: the next line
   pub bad-on : (left : ℕ) → 0 < left → endsBody (lineAt text at) ≡ false
-    → badFrom text seen at left ≡ badFrom text (seen + 1) (nextOf (lineAt text at)) (left - 1)
+      → badFrom text seen at left ≡ badFrom text (seen + 1) (nextOf (lineAt text at)) (left - 1)
   unfolding badFrom
   bad-on zero h e = absurd (not-suc-le-zero h)
   bad-on (suc k) h e = rw (e, sub-one)
@@ -47,7 +47,7 @@ module _ (text : List ℕ) (at : ℕ) where
   body-stop (suc k) e = rw e
 
   pub body-on : (left : ℕ) → 0 < left → endsBody (lineAt text at) ≡ false
-    → bodyFrom text at left ≡ lineAt text at ∷ bodyFrom text (nextOf (lineAt text at)) (left - 1)
+      → bodyFrom text at left ≡ lineAt text at ∷ bodyFrom text (nextOf (lineAt text at)) (left - 1)
   unfolding bodyFrom
   body-on zero h e = absurd (not-suc-le-zero h)
   body-on (suc k) h e = rw (e, sub-one)

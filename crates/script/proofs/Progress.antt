@@ -30,13 +30,13 @@ cond-same false x y z h = h refl
 
 -- turns that reach past the end of the text are enough
 enough : (text : List ℕ) → length text < lost → (more turns seen at : ℕ) → at ≤ length text → length text < at + 6 * turns
-  → Same text more turns seen at
+    → Same text more turns seen at
 unfolding badFrom bodyFrom
 enough text L more zero seen at h k = absurd (omega arith)
 enough text L more (suc turns) seen at h k =
     let l = lineAt text at in
     let on : endsBody l ≡ false → Same text more turns (seen + 1) (nextOf l) =
-      λ e. let w = onward text L at h e in enough text L more turns (seen + 1) (nextOf l) (w .1) (omega (arith, w)) in
+    λ e. let w = onward text L at h e in enough text L more turns (seen + 1) (nextOf l) (w .1) (omega (arith, w)) in
     rw (suc-add turns more)
     (cond-same (endsBody l) _ _ _ (λ e. on e .0), cond-same (endsBody l) _ _ _ (λ e. ap (λ rest. l ∷ rest) (on e .1)))
 
@@ -88,7 +88,7 @@ both true b e = (refl, e)
 both false b e = absurd (true≢false (sym e))
 
 parties-good : (text : List ℕ) → eqb (partiesLine text .next) lost ≡ false
-  → (1 ≤ partiesLine text .value) × (partiesLine text .value ≤ 16)
+    → (1 ≤ partiesLine text .value) × (partiesLine text .value ≤ 16)
 unfolding partiesLine
 parties-good text e = let w = both _ _ (held _ _ e) in (leb-true _ _ (w .0), leb-true _ _ (w .1))
 
@@ -97,7 +97,7 @@ rows-good v true e = (omega arith, omega arith)
 rows-good v false e = let w = both (leb 4 v) (leb v 4096) e in (leb-true 4 v (w .0), leb-true v 4096 (w .1))
 
 nodes-good : (text : List ℕ) (at : ℕ) → eqb (nodesLine text at .next) lost ≡ false
-  → (4 ≤ nodesLine text at .value) × (nodesLine text at .value ≤ 4096)
+    → (4 ≤ nodesLine text at .value) × (nodesLine text at .value ≤ 4096)
 unfolding nodesLine rowsOf
 nodes-good text at e = let v = numberAt text (word text at (bytes "nodes=")) .value in rows-good v (eqb v 0) (held _ _ e)
 

@@ -10,7 +10,21 @@ use lib.ListN.{length}
 use lib.Dec.{eqb, ltb, leb}
 use borrow.Author.Tests.{ltb-true, le-ltb, eqb-false}
 use Rattle.text.specs.Reading.{
-    bytes, lost, byteAt, placeAfter, word, only, digitOf, firstDigit, nextDigit, numberAt, hexOf, noPair, pairAt, fieldAt }
+  bytes,
+  lost,
+  byteAt,
+  placeAfter,
+  word,
+  only,
+  digitOf,
+  firstDigit,
+  nextDigit,
+  numberAt,
+  hexOf,
+  noPair,
+  pairAt,
+  fieldAt,
+}
 use Rattle.text.specs.declared.Number.{Number}
 use Rattle.script.specs.Lines.{lineEnd, verbAt, callLine, stepLine, endLine, lineAt, endsBody, nextOf}
 use Rattle.script.specs.Head.{partiesLine, nodesLine, orderLine}
@@ -32,7 +46,7 @@ weaken a h r = record { led = ⊎-elim (λ e. inl e) (λ w. inr (omega (arith, h
 
 -- whichever of two readings a test takes
 keep : {A : Type 0} {text : List ℕ} {b : ℕ} (c : Bool) (m n : A) (place : A → ℕ)
-  → Reach text b (place m) → Reach text b (place n) → Reach text b (place (cond c m n))
+    → Reach text b (place m) → Reach text b (place n) → Reach text b (place (cond c m n))
 keep true m n place p q = p
 keep false m n place p q = q
 
@@ -100,7 +114,7 @@ module _ (text : List ℕ) (L : length text < lost) where
 
   -- a word, a number that passes a test, and LF
   numbered : (w : List ℕ) (test : ℕ → Bool) {b at : ℕ} → Reach text b at
-    → Reach text (b + length w + 1 + 1) (let n = numberAt text (word text at w) in only (test (n .value)) (lineEnd text (n .next)))
+      → Reach text (b + length w + 1 + 1) (let n = numberAt text (word text at w) in only (test (n .value)) (lineEnd text (n .next)))
   numbered w test {at = at} r = end-reach (test (numberAt text (word text at w) .value)) (number-reach (word-reach w r))
 
   verb-reach : {b at : ℕ} → Reach text b at → Reach text b (verbAt text at .next)
@@ -144,8 +158,8 @@ module _ (text : List ℕ) (L : length text < lost) where
   Onward at l = endsBody l ≡ false → (at + 6 ≤ nextOf l) × (nextOf l ≤ length text)
 
   onward-if : (at : ℕ) (a b c : Bool) (o : CallLine) (s e : Number) → eqb (o .next) lost ≡ a → eqb (s .next) lost ≡ b
-    → Reach text (at + 6) (o .next) → Reach text (at + 6) (s .next)
-    → Onward at (cond a (cond b (cond c Bad (End (e .value) (e .next))) (Step (s .value) (s .next))) (Call o))
+      → Reach text (at + 6) (o .next) → Reach text (at + 6) (s .next)
+      → Onward at (cond a (cond b (cond c Bad (End (e .value) (e .next))) (Step (s .value) (s .next))) (Call o))
   onward-if at false b c o s e p q r t h = found (o .next) r p
   onward-if at true false c o s e p q r t h = found (s .next) t q
   onward-if at true true true o s e p q r t h = absurd (true≢false h)

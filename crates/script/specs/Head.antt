@@ -47,7 +47,8 @@ headOf3 p n o =
       nodes = n .value;
       order = o .value;
       next = o .next;
-      bad = firstLost (p .next) (n .next) (o .next) }
+      bad = firstLost (p .next) (n .next) (o .next);
+    }
 
 abbrev pub headOf2 : List ℕ → (parties nodes : Number) → Head
 headOf2 text p n = headOf3 p n (orderLine text (n .next))

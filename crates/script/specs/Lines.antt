@@ -39,7 +39,8 @@ callWith text n v f =
       b1 = f .b1;
       b2 = f .b2;
       b3 = f .b3;
-      next = only (leb (n .value) 99) (lineEnd text (f .next)) }
+      next = only (leb (n .value) 99) (lineEnd text (f .next));
+    }
 
 abbrev pub callNamed : List ℕ → Number → Verb → CallLine
 callNamed text n v = callWith text n v (fieldAt text (v .next))

@@ -52,9 +52,15 @@ fn verb_at(text: &[u8], at: usize) -> Verb
     let remove = text::word(text, at, b" remove ");
     if add == LOST {
         if remove == LOST {
-            return Verb { code: 2, next: text::word(text, at, b" contains ") };
+            return Verb {
+                code: 2,
+                next: text::word(text, at, b" contains "),
+            };
         }
-        return Verb { code: 1, next: remove };
+        return Verb {
+            code: 1,
+            next: remove,
+        };
     }
     Verb { code: 0, next: add }
 }
@@ -67,7 +73,15 @@ fn call_line(text: &[u8], at: usize) -> CallLine
     let v = verb_at(text, n.next);
     let f = text::read_field(text, v.next);
     let next = text::only(n.value <= 99, text::word(text, f.next, b"\n"));
-    CallLine { party: n.value, code: v.code, b0: f.b0, b1: f.b1, b2: f.b2, b3: f.b3, next }
+    CallLine {
+        party: n.value,
+        code: v.code,
+        b0: f.b0,
+        b1: f.b1,
+        b2: f.b2,
+        b3: f.b3,
+        next,
+    }
 }
 
 // step=P
@@ -75,7 +89,10 @@ fn step_line(text: &[u8], at: usize) -> Number
     ensures { λ r. ⌜ r ≡ stepLine (now (text .entry)) at ⌝ }
 {
     let n = text::read_number(text, text::word(text, at, b"step="));
-    Number { value: n.value, next: text::only(n.value <= 99, text::word(text, n.next, b"\n")) }
+    Number {
+        value: n.value,
+        next: text::only(n.value <= 99, text::word(text, n.next, b"\n")),
+    }
 }
 
 // end= and a number
@@ -83,7 +100,10 @@ fn end_line(text: &[u8], at: usize) -> Number
     ensures { λ r. ⌜ r ≡ endLine (now (text .entry)) at ⌝ }
 {
     let n = text::read_number(text, text::word(text, at, b"end="));
-    Number { value: n.value, next: text::word(text, n.next, b"\n") }
+    Number {
+        value: n.value,
+        next: text::word(text, n.next, b"\n"),
+    }
 }
 
 // The line that stands at a place behind the head.
@@ -135,7 +155,10 @@ fn parties_line(text: &[u8]) -> Number
 {
     let n = text::read_number(text, text::word(text, 0, b"parties="));
     let v = n.value;
-    Number { value: v, next: text::only((1 <= v) & (v <= 16), text::word(text, n.next, b"\n")) }
+    Number {
+        value: v,
+        next: text::only((1 <= v) & (v <= 16), text::word(text, n.next, b"\n")),
+    }
 }
 
 // 0 stands for the usual table.
@@ -151,8 +174,14 @@ fn nodes_line(text: &[u8], at: usize) -> Number
 {
     let n = text::read_number(text, text::word(text, at, b"nodes="));
     let v = n.value;
-    let next = text::only((v == 0) | ((4 <= v) & (v <= 4096)), text::word(text, n.next, b"\n"));
-    Number { value: rows_of(v), next }
+    let next = text::only(
+        (v == 0) | ((4 <= v) & (v <= 4096)),
+        text::word(text, n.next, b"\n"),
+    );
+    Number {
+        value: rows_of(v),
+        next,
+    }
 }
 
 // order=, big or little
@@ -161,9 +190,15 @@ fn order_line(text: &[u8], at: usize) -> Number
 {
     let big = text::word(text, at, b"order=big\n");
     if big == LOST {
-        return Number { value: 1, next: text::word(text, at, b"order=little\n") };
+        return Number {
+            value: 1,
+            next: text::word(text, at, b"order=little\n"),
+        };
     }
-    Number { value: 0, next: big }
+    Number {
+        value: 0,
+        next: big,
+    }
 }
 
 // The number of the first of the three lines that is lost, or 0.
@@ -189,7 +224,13 @@ pub fn read_head(text: &[u8]) -> Head
     let n = nodes_line(text, p.next);
     let o = order_line(text, n.next);
     let bad = first_lost(p.next, n.next, o.next);
-    Head { parties: p.value, nodes: n.value, order: o.value, next: o.next, bad }
+    Head {
+        parties: p.value,
+        nodes: n.value,
+        order: o.value,
+        next: o.next,
+        bad,
+    }
 }
 
 // The bad line that an `end=` behind so many lines leads to, or 0: itself if its number is wrong, the next one if bytes follow.

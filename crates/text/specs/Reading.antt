@@ -84,7 +84,8 @@ pairAt text at =
     (cond (ltb (hexOf (byteAt text (placeAfter text at))) 16)
     (record {
       value = hexOf (byteAt text at) * 16 + hexOf (byteAt text (placeAfter text at));
-      next = placeAfter text (placeAfter text at) })
+      next = placeAfter text (placeAfter text at);
+    })
     noPair) noPair
 
 -- four of them are a field
@@ -95,4 +96,5 @@ fieldAt text at =
       b1 = pairAt text (pairAt text at .next) .value;
       b2 = pairAt text (pairAt text (pairAt text at .next) .next) .value;
       b3 = pairAt text (pairAt text (pairAt text (pairAt text at .next) .next) .next) .value;
-      next = pairAt text (pairAt text (pairAt text (pairAt text at .next) .next) .next) .next }
+      next = pairAt text (pairAt text (pairAt text (pairAt text at .next) .next) .next) .next;
+    }

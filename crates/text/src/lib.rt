@@ -1,17 +1,17 @@
 // Reading at a place of a text: words, decimal numbers, fields of eight hex digits. A reading that fails goes to LOST, where every later one fails too.
 ghost use mathlib.Core.Path.{_≡_};
 ghost use Rattle.text.specs.Reading.{
-    byteAt,
-    placeAfter,
-    word as Reading·word,
-    only as Reading·only,
-    digitOf,
-    firstDigit,
-    nextDigit,
-    numberAt,
-    hexOf,
-    pairAt,
-    fieldAt
+  byteAt,
+  placeAfter,
+  word as Reading·word,
+  only as Reading·only,
+  digitOf,
+  firstDigit,
+  nextDigit,
+  numberAt,
+  hexOf,
+  pairAt,
+  fieldAt,
 };
 
 // A place past the end of every text.
@@ -94,9 +94,15 @@ fn first_digit(text: &[u8], at: usize) -> Number
 {
     let d = digit(byte_at(text, at));
     if d < 10 {
-        Number { value: d as u32, next: place_after(text, at) }
+        Number {
+            value: d as u32,
+            next: place_after(text, at),
+        }
     } else {
-        Number { value: 0, next: LOST }
+        Number {
+            value: 0,
+            next: LOST,
+        }
     }
 }
 
@@ -112,7 +118,10 @@ fn next_digit(text: &[u8], n: Number) -> Number
     if value < 10000 {
         let d = digit(byte_at(text, at));
         if d < 10 {
-            return Number { value: value * 10 + d as u32, next: place_after(text, at) };
+            return Number {
+                value: value * 10 + d as u32,
+                next: place_after(text, at),
+            };
         }
     }
     n
@@ -122,7 +131,13 @@ fn next_digit(text: &[u8], n: Number) -> Number
 pub fn read_number(text: &[u8], at: usize) -> Number
     ensures { λ r. ⌜ r ≡ numberAt (now (text .entry)) at ⌝ }
 {
-    next_digit(text, next_digit(text, next_digit(text, next_digit(text, first_digit(text, at)))))
+    next_digit(
+        text,
+        next_digit(
+            text,
+            next_digit(text, next_digit(text, first_digit(text, at))),
+        ),
+    )
 }
 
 // What a hex digit of either case stands for; 16 for any other byte.
@@ -155,10 +170,16 @@ fn read_pair(text: &[u8], at: usize) -> Pair
     let low = hex(byte_at(text, second));
     if high < 16 {
         if low < 16 {
-            return Pair { value: high * 16 + low, next: place_after(text, second) };
+            return Pair {
+                value: high * 16 + low,
+                next: place_after(text, second),
+            };
         }
     }
-    Pair { value: 0, next: LOST }
+    Pair {
+        value: 0,
+        next: LOST,
+    }
 }
 
 // The four bytes of eight hex digits.
@@ -169,5 +190,11 @@ pub fn read_field(text: &[u8], at: usize) -> Field
     let q = read_pair(text, p.next);
     let r = read_pair(text, q.next);
     let s = read_pair(text, r.next);
-    Field { b0: p.value, b1: q.value, b2: r.value, b3: s.value, next: s.next }
+    Field {
+        b0: p.value,
+        b1: q.value,
+        b2: r.value,
+        b3: s.value,
+        next: s.next,
+    }
 }

@@ -35,7 +35,16 @@ fn plain_call(
     let verdict = call_asks(state, kind.len(), party, code);
     match verdict {
         Verdict::Accepted => {
-            let after = bare::call(kind, key, next, back, state, party, call_named(code), wanted);
+            let after = bare::call(
+                kind,
+                key,
+                next,
+                back,
+                state,
+                party,
+                call_named(code),
+                wanted,
+            );
             Stepped {
                 state: after,
                 reply: Reply::Heard(Said::Nothing),
@@ -99,7 +108,16 @@ fn call_turn(
 {
     let field = load_field(line, order);
     match field {
-        Loaded::Key(wanted) => plain_call(kind, key, next, back, state, line.party, line.code, wanted),
+        Loaded::Key(wanted) => plain_call(
+            kind,
+            key,
+            next,
+            back,
+            state,
+            line.party,
+            line.code,
+            wanted,
+        ),
         Loaded::Refused(why) => Stepped {
             state,
             reply: Reply::Refused(why),

@@ -42,9 +42,11 @@ loop-again c =
     let m = d .before .before in
     let text = m .before .before .before .args .text .now in
     let e = d .line-at .ensures in
-    let goes = ap (λ (l : Line). endsBody l) (sym e) ∙ sym (c .before .before .ends-body .ensures) ∙ c .before .if1 .left in
-    (omega arith, m .loop .inv .1 ∙ bad-on text (m .loop .seen) (m .loop .at) (m .loop .left) (omega arith) goes
-    ∙ ap (λ n. badFrom text (m .loop .seen + 1) n (m .loop .left - 1)) (sym (c .next-of .ensures ∙ ap (λ (l : Line). nextOf l) e)))
+    let goes = ap (λ (l : Line). endsBody l) (sym e) ∙ sym (c .before .before .ends-body .ensures) ∙ c .before .if1 .left in (
+      omega arith,
+      m .loop .inv .1 ∙ bad-on text (m .loop .seen) (m .loop .at) (m .loop .left) (omega arith) goes
+          ∙ ap (λ n. badFrom text (m .loop .seen + 1) n (m .loop .left - 1)) (sym (c .next-of .ensures ∙ ap (λ (l : Line). nextOf l) e)),
+    )
 
 returns-2 : tie.Need-returns-2 Inv-loop μ-loop
 returns-2 c =

@@ -10,8 +10,14 @@ unfolding callLine
 returns c =
     let f = c .before .before .before .before in
     let n = f .before .before in
-    simp (c .only .ensures, c .before .word2 .ensures, f .read-field .ensures, f .before .verb-at .ensures, n .read-number .ensures,
-    n .before .word .ensures)
+    simp (
+      c .only .ensures,
+      c .before .word2 .ensures,
+      f .read-field .ensures,
+      f .before .verb-at .ensures,
+      n .read-number .ensures,
+      n .before .word .ensures,
+    )
 
 pub call-line-spec : {M : Type 1} → statement M
 call-line-spec =
