@@ -3,12 +3,13 @@
 use borrow.Author.Tests.{eq-eqb, ne-eqb}
 use Rattle.script.specs.Body.{endBad}
 use borrow.Author.Needs.{needs}
+use native.Mathlib.Omega.{arith}
 use Rattle.script.proofs.end_bad.Statement.{statement}
 use Rattle.script.proofs.end_bad.Tie as tie
 
 returns : tie.Need-returns
 unfolding endBad
-returns c = simp (ne-eqb _ _ (c .if1 .taken))
+returns c = simp (ne-eqb (c .before .args .count) (c .before .args .seen) (λ e. c .if1 .taken (omega arith)))
 
 returns-2 : tie.Need-returns-2
 unfolding endBad

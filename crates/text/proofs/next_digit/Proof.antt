@@ -9,18 +9,21 @@ use Rattle.text.proofs.next_digit.Tie as tie
 
 returns : tie.Need-returns
 unfolding nextDigit
-returns c = simp (eq-eqb (c .before .before .args .n .value) 0 (omega arith))
+returns c =
+    let c2 = c .before .before in
+    simp (eq-eqb (c2 .args .n .value) 0 (omega arith))
 
 returns-2 : tie.Need-returns-2
 unfolding nextDigit
 returns-2 c =
+    let c7 = c .before .before .before .before .before .before .before in
     let d = c .before .before in
     let f = d .before .before in
     let k = simp (d .digit .ensures, d .before .byte-at .ensures) at (lt-ltb _ _ (c .before .if3 .taken)) in
     simp (
       k,
       lt-ltb _ _ (f .if2 .taken),
-      ne-eqb _ _ (f .before .if1 .left),
+      ne-eqb (c7 .args .n .value) 0 (λ z. omega arith),
       d .digit .ensures,
       d .before .byte-at .ensures,
       c .place-after .ensures,
@@ -29,14 +32,17 @@ returns-2 c =
 returns-3 : tie.Need-returns-3
 unfolding nextDigit
 returns-3 c =
+    let c6 = c .before .before .before .before .before .before in
     let d = c .before in
     let f = d .before .before in
     let k = simp (d .digit .ensures, d .before .byte-at .ensures) at (le-ltb _ _ (c .if3 .left)) in
-    simp (k, lt-ltb _ _ (f .if2 .taken), ne-eqb _ _ (f .before .if1 .left))
+    simp (k, lt-ltb _ _ (f .if2 .taken), ne-eqb (c6 .args .n .value) 0 (λ z. omega arith))
 
 returns-4 : tie.Need-returns-4
 unfolding nextDigit
-returns-4 c = simp (le-ltb _ _ (c .if2 .left), ne-eqb _ _ (c .before .if1 .left))
+returns-4 c =
+    let c3 = c .before .before .before in
+    simp (le-ltb _ _ (c .if2 .left), ne-eqb (c3 .args .n .value) 0 (λ z. omega arith))
 
 pub next-digit-spec : {M : Type 1} → statement M
 next-digit-spec =
