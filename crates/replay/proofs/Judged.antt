@@ -1,17 +1,17 @@
 -- Texts as they are judged: too long, bad at a line, or good; and what a good one is known for.
 -- Assumes nothing.
 use mathlib.Core.Path.{_≡_, refl, ap, sym, _∙_}
-use mathlib.Core.Bool.{Bool, true, false, cond, not, _&&_, _||_}
+use mathlib.Core.Bool.{cond}
 use mathlib.Core.List.{List, []}
 use Prim.Native.Nat.{ℕ, zero, suc, _<_, _≤_}
 use native.Mathlib.Omega.{arith}
 use lib.ListN.{length, length-replicate}
 use lib.Dec.{eqb, ltb}
-use borrow.Author.Tests.{lt-ltb, le-ltb, ltb-false, eq-eqb, eqb-true, eqb-false, ne-eqb, le-leb}
+use borrow.Author.Tests.{lt-ltb, le-ltb, ltb-false, eq-eqb, eqb-true, ne-eqb, le-leb}
 use Rattle.refusal.specs.Answer.{passed}
 use Rattle.columns.specs.Column.{zeros}
 use Rattle.rows.specs.Table.{tab}
-use Rattle.list.specs.Engine.{badTable, badParties, setUpOf}
+use Rattle.list.specs.Engine.{setUpOf}
 use Rattle.list.specs.Run.{run, fresh}
 use Rattle.grown.specs.History.{keysFit}
 use Rattle.report.specs.Lines.{badLine}
@@ -20,7 +20,7 @@ use Rattle.script.specs.Head.{headOf}
 use Rattle.script.specs.Body.{mostLines, bodyOf, badFrom, firstBad}
 use Rattle.script.proofs.Progress.{good-head}
 use Rattle.world.proofs.Cases.{by-test}
-use Rattle.replay.specs.Output.{Engine, checked, plain, played, lastOf, judged, outputBy, outputOf}
+use Rattle.replay.specs.Output.{Engine, checked, plain, played, judged, outputBy}
 use Rattle.replay.specs.Claims.{SameOutput, endOf, ListingStands}
 use Rattle.replay.proofs.Sound.{Sound, sound-listing}
 use Rattle.replay.proofs.Same.{body-fits, run-same, played-same}

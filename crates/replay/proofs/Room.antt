@@ -1,18 +1,16 @@
 -- How long an output can be.
 -- Assumes nothing.
-use mathlib.Core.Path.{_≡_, refl, ap, sym, _∙_}
-use mathlib.Core.Bool.{Bool, true, false, cond}
-use mathlib.Core.List.{List, [], _∷_, _++_}
-use Prim.Native.Nat.{ℕ, zero, suc, _+_, _*_, _/_, _<_, _≤_}
+use mathlib.Core.Path.{_≡_, refl}
+use mathlib.Core.List.{List, [], _∷_}
+use Prim.Native.Nat.{ℕ, zero, suc, _+_, _*_, _/_, _≤_}
 use native.Mathlib.Omega.{arith}
-use lib.ListN.{length, drop, length-append}
+use lib.ListN.{length, length-append}
 use lib.Dec.{ltb}
 use borrow.Author.Tests.{ltb-false}
 use Rattle.bare.specs.Bare.{Machine, partyOf}
 use Rattle.list.specs.Engine.{liveKeys}
 use Rattle.list.specs.Run.{turnOf, fresh}
 use Rattle.text.specs.Reading.{bytes}
-use Rattle.page.specs.Page.{Page, page, Wrote}
 use Rattle.page.proofs.Room.{room}
 use Rattle.report.specs.Lines.{badLine}
 use Rattle.report.proofs.Room.{said-short, numbered-short, keys-short, tallies-short}
@@ -22,7 +20,7 @@ use Rattle.script.specs.Head.{headOf}
 use Rattle.script.specs.Body.{mostLines, bodyFrom, bodyOf, firstBad}
 use Rattle.turns.specs.Turns.{partyIn, lineTurn}
 use Rattle.world.proofs.Cases.{on-cond}
-use Rattle.replay.specs.Output.{checked, lineSays, answersFrom, lastOf, closing, played, judged, outputBy, outputOf}
+use Rattle.replay.specs.Output.{checked, lineSays, answersFrom, lastOf, closing, judged, outputBy, outputOf}
 use Rattle.replay.specs.Claims.{OutputFits, WholeOutput}
 use Rattle.replay.proofs.Sound.{Sound, few-keys}
 use Rattle.replay.proofs.Same.{body-fits, run-same}

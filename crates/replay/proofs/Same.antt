@@ -1,38 +1,36 @@
 -- The output by bare turns and a listing is the output by checked turns and live keys.
 -- Assumes nothing.
 use Prim.{Unit, tt}
-use mathlib.Core.Path.{_≡_, refl, ap, sym, _∙_}
+use mathlib.Core.Path.{_≡_, refl, ap, _∙_}
 use mathlib.Core.Bool.{Bool, true, false, cond}
 use mathlib.Core.List.{List, [], _∷_, _++_}
 use Prim.Native.Nat.{ℕ, zero, suc, _+_, _<_, _≤_}
-use native.Mathlib.Nat.{not-suc-le-zero}
 use native.Mathlib.Omega.{arith}
-use lib.ListN.{length, getD, drop, length-replicate}
+use lib.ListN.{length, drop, length-replicate}
 use lib.Seq.{take-at}
 use lib.Dec.{eqb, ltb}
-use borrow.Author.Tests.{lt-ltb, le-ltb, ltb-true, ltb-false}
-use Rattle.refusal.specs.Answer.{Answer, accepted, refused, left, passed}
+use borrow.Author.Tests.{lt-ltb}
+use Rattle.refusal.specs.Answer.{Answer, accepted, refused, left}
 use Rattle.refusal.proofs.Laws.{answer-past}
 use Rattle.columns.specs.Column.{zeros}
-use Rattle.bare.specs.Bare.{Machine, partyOf}
+use Rattle.bare.specs.Bare.{Machine}
 use Rattle.field.specs.Field.{fieldTests, fieldAt, orderOf, loadOf}
 use Rattle.field.specs.Layout.{Bytes}
 use Rattle.field.proofs.Numbers.{number-below-power}
-use Rattle.list.specs.Engine.{liveKeys, placesWith, listOf}
-use Rattle.list.specs.Run.{calls, moves, turnOf, fresh}
-use Rattle.report.specs.Lines.{saidBy, keyLines, tallyLines, badLine}
+use Rattle.list.specs.Engine.{liveKeys}
+use Rattle.list.specs.Run.{calls, moves, turnOf}
+use Rattle.report.specs.Lines.{keyLines, tallyLines}
 use Rattle.text.specs.Reading.{lost}
 use Rattle.text.proofs.Bytes.{field-is-bytes}
 use Rattle.script.specs.declared.CallLine.{CallLine}
-use Rattle.script.specs.declared.Head.{Head}
 use Rattle.script.specs.declared.Line.{Line}
 use Rattle.script.specs.declared.Line.the-variants.{Call, Step, End, Bad}
 use Rattle.script.specs.Lines.{lineAt, callLine, stepLine, endLine, endsBody, nextOf}
 use Rattle.script.specs.Body.{bodyFrom}
-use Rattle.turns.specs.Turns.{plainTurn, fieldIn, partyIn, loaded, lineTurn}
+use Rattle.turns.specs.Turns.{plainTurn, fieldIn, loaded, lineTurn}
 use Rattle.world.proofs.Cases.{on-cond}
 use Rattle.replay.specs.Output.{checked, listed, keysLeft, plain, lineSays, answersFrom, lastOf, closing, played}
-use Rattle.replay.proofs.Sound.{Sound, sound-turn, plain-turn, few-keys, sound-listing}
+use Rattle.replay.proofs.Sound.{Sound, sound-turn, plain-turn, sound-listing}
 
 -- ---- lines whose fields are bytes
 

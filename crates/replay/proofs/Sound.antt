@@ -1,31 +1,22 @@
 -- Every list that a schedule has grown: on it the bare turn is the checked one, and a listing lists the live keys.
 -- Assumes nothing.
-use Prim.{Unit, tt}
 use mathlib.Core.Path.{_≡_, refl, ap, sym, _∙_}
-use mathlib.Core.Bool.{Bool, true, false, not, cond, _&&_, _||_}
+use mathlib.Core.Bool.{Bool, true, false, cond}
 use mathlib.Core.List.{List, [], _∷_, _++_}
-use Prim.Native.Nat.{ℕ, zero, suc, _+_, _<_, _≤_}
-use native.Mathlib.Nat.{not-suc-le-zero}
+use Prim.Native.Nat.{ℕ, zero, suc, _+_, _≤_}
 use native.Mathlib.Omega.{arith}
-use lib.ListN.{length, take, length-append, length-replicate}
-use lib.Seq.{take-at}
-use lib.Dec.{eqb, ltb, leb}
-use borrow.Author.Tests.{lt-ltb, le-ltb, ltb-true, le-leb, eq-eqb, ne-eqb}
-use Rattle.refusal.specs.Answer.{Answer, accepted, refused, Left, left, Tests, passed, refusing, leaving}
-use Rattle.refusal.proofs.Laws.{answer-past, leaves-changed}
-use Rattle.columns.specs.Column.{zeros}
+use lib.ListN.{length}
+use lib.Dec.{eqb}
+use borrow.Author.Tests.{le-ltb}
+use Rattle.refusal.specs.Answer.{accepted, left, passed, refusing, leaving}
 use Rattle.columns.proofs.Every.{and-left, and-right, and-both}
-use Rattle.rows.specs.Table.{Table, tab}
-use Rattle.moves.specs.declared.Said.{Said}
+use Rattle.rows.specs.Table.{Table}
 use Rattle.bare.specs.Bare.{Machine}
-use Rattle.form.specs.Form.{rowsIn, goodForm}
+use Rattle.form.specs.Form.{goodForm}
 use Rattle.form.proofs.Good.{good}
 use Rattle.chain.specs.Chain.{withKey, isLive, behind, liveFrom}
-use Rattle.field.specs.Field.{fieldTests, fieldAt, orderOf, loadOf}
-use Rattle.field.specs.Layout.{Bytes}
-use Rattle.field.proofs.Numbers.{number-below-power}
 use Rattle.list.specs.Engine.{badTable, setUpOf, liveKeys, placesWith, listOf}
-use Rattle.list.specs.Run.{Event, calls, moves, turnOf, run, fresh}
+use Rattle.list.specs.Run.{Event, turnOf, run}
 use Rattle.list.proofs.Laws.{table-fits}
 use Rattle.grown.specs.History.{History, keyFits, keysFit, heeded, start, Grows, grown}
 use Rattle.grown.proofs.Heeded.{all-heeded}

@@ -1,9 +1,7 @@
 -- The contracts of this crate leave one outcome each.
 -- Assumes nothing.
-use mathlib.Core.List.{List}
-use Prim.Native.Nat.{ℕ}
 use Rattle.outcome.specs.Outcome.{OneOutcome}
-use Rattle.page.specs.Page.{Page, page}
+use Rattle.page.specs.Page.{page}
 use Rattle.page.proofs.Laws.{one-page}
 use Rattle.report.proofs.put_reply.Reads as put-reply
 use Rattle.report.proofs.put_bad.Reads as put-bad
