@@ -25,7 +25,28 @@ unfolding word placeAfter digitOf nextDigit hexOf pairAt fieldAt digits callName
 examples = record {
   run-of-01 = refl;
   runs = record { empty = refl; refusals = refl; big = refl; little = refl };
-  heads = record { nothing-at-all = refl; no-parties = refl; many-parties = refl; leading-zero = refl; space = refl; capitals = refl; few-nodes = refl; many-nodes = refl; no-nodes = refl; no-order = refl; carriage-return = refl };
-  lines = record { party-over-99 = refl; party-with-zero = refl; seven-digits = refl; nine-digits = refl; no-digit = refl; no-such-call = refl; two-spaces = refl; blank-line = refl };
+  heads = record {
+    nothing-at-all = refl;
+    no-parties = refl;
+    many-parties = refl;
+    leading-zero = refl;
+    space = refl;
+    capitals = refl;
+    few-nodes = refl;
+    many-nodes = refl;
+    no-nodes = refl;
+    no-order = refl;
+    carriage-return = refl;
+  };
+  lines = record {
+    party-over-99 = refl;
+    party-with-zero = refl;
+    seven-digits = refl;
+    nine-digits = refl;
+    no-digit = refl;
+    no-such-call = refl;
+    two-spaces = refl;
+    blank-line = refl;
+  };
   ends = record { no-end = refl; no-line-end = refl; too-many = refl; far-too-many = refl; text-behind = refl; blank-behind = refl };
 }

@@ -23,7 +23,7 @@ use Rattle.world.proofs.Cases.{by-test}
 use Rattle.replay.specs.Output.{Engine, checked, plain, played, judged, outputBy}
 use Rattle.replay.specs.Claims.{SameOutput, endOf, ListingStands}
 use Rattle.replay.proofs.Sound.{Sound, sound-listing}
-use Rattle.replay.proofs.Same.{body-fits, run-same, played-same}
+use Rattle.replay.proofs.Same.{body-fits, SameRun, run-same, played-same}
 
 -- ---- the three cases
 
@@ -95,22 +95,27 @@ module _ (text : List ℕ) (short : length text ≤ 65536) (good : headOf text .
 -- ---- the claims
 
 module _ (text : List ℕ) (short : length text ≤ 65536) where
-  judged-same : (bad : ℕ) → firstBad text (headOf text) ≡ bad → judged plain text (headOf text) bad ≡ judged checked text (headOf text) bad
-  judged-same zero good =
-      let head = headOf text in
-      played-same (head .order) (fresh (head .nodes) (head .parties)) 0 (bodyOf text head) (sound-fresh text short (head-good text head good))
+  abbrev head : Head
+  head = headOf text
+
+  -- the run of a good text is the same by both engines
+  pub good-run : firstBad text head ≡ 0 → SameRun (head .order) (fresh (head .nodes) (head .parties)) 0 (bodyOf text head)
+  good-run good =
+      run-same (head .order) (fresh (head .nodes) (head .parties)) 0 (bodyOf text head) (sound-fresh text short (head-good text head good))
       (body-fits text (head .next) (mostLines text))
+
+  judged-same : (bad : ℕ) → firstBad text head ≡ bad → judged plain text head bad ≡ judged checked text head bad
+  judged-same zero good = played-same (head .order) (fresh (head .nodes) (head .parties)) 0 (bodyOf text head) (good-run good)
   judged-same (suc line) bad = refl
 
 pub same-output : SameOutput
 unfolding outputBy
 same-output text =
-    by-test (λ b. ltb 65536 (length text) ≡ b → cond b (badLine 0) (judged plain text (headOf text) (firstBad text (headOf text))) ≡ cond b (badLine 0) (judged checked text (headOf text) (firstBad text (headOf text))))
-    (ltb 65536 (length text)) (λ t e. refl) (λ f e. judged-same text (ltb-false 65536 (length text) e) (firstBad text (headOf text)) refl) refl
+    let bad = firstBad text (headOf text) in
+    let by-bare = judged plain text (headOf text) bad in
+    let by-checked = judged checked text (headOf text) bad in
+    by-test (λ long. ltb 65536 (length text) ≡ long → cond long (badLine 0) by-bare ≡ cond long (badLine 0) by-checked)
+    (ltb 65536 (length text)) (λ t e. refl) (λ f e. judged-same text (ltb-false 65536 (length text) e) bad refl) refl
 
 pub listing-stands : ListingStands
-listing-stands text places short good enough =
-    let head = headOf text in
-    let start = sound-fresh text short (head-good text head good) in
-    let run = run-same (head .order) (fresh (head .nodes) (head .parties)) 0 (bodyOf text head) start (body-fits text (head .next) (mostLines text)) in
-    sound-listing (endOf text) (run .sound) places enough
+listing-stands text places short good enough = sound-listing (endOf text) (good-run text short good .sound) places enough

@@ -47,14 +47,16 @@ module _ (text : List ℕ) (order : ℕ) (m : Machine) (seen at left : ℕ) wher
 
   pub played-on : (line : Line) {after : Machine} {next : ℕ} → 0 < left → line ≡ lineAt text at → endsBody line ≡ false →
       after ≡ lineTurn plainTurn order m line .memory → next ≡ nextOf line →
-      lineSays plainTurn order m (seen + 4) line ++ playedFrom text order after (seen + 1) next (left - 1) ≡ playedFrom text order m seen at left
+      lineSays plainTurn order m (seen + 4) line ++ playedFrom text order after (seen + 1) next
+      (left - 1) ≡ playedFrom text order m seen at left
   unfolding answersFrom lastOf
   played-on line some here goes turns leads =
       let l = lineAt text at in
       let m′ = lineTurn plainTurn order m l .memory in
       let rest = bodyFrom text (nextOf l) (left - 1) in
       rw (turns, leads, here)
-      (sym (append-assoc (lineSays plainTurn order m (seen + 4) l) (answersFrom plainTurn order m′ (seen + 1) rest) (closing plain (lastOf plainTurn order m′ rest)))
+      (sym (append-assoc (lineSays plainTurn order m (seen + 4) l) (answersFrom plainTurn order m′ (seen + 1) rest) (closing plain
+      (lastOf plainTurn order m′ rest)))
       ∙ ap (played plain order m seen) (sym (body-on text at left some (rw here at goes))))
 
 -- ---- the listing
@@ -65,7 +67,8 @@ valueIn (accepted value) = value
 valueIn (refused number) = 0
 
 -- where it is not refused, as many keys as it says stand in its places
-places-hold : (m : Machine) (places : List ℕ) {filled : List ℕ} {count : ℕ} → left filled (accepted count) ≡ listOf m places → count ≤ length filled
+places-hold : (m : Machine) (places : List ℕ) {filled : List ℕ} {count : ℕ} → left filled (accepted count) ≡ listOf m places →
+    count ≤ length filled
 unfolding listOf
 places-hold m places {filled} {count} e =
     let all = left (placesWith (liveKeys m) places) (accepted (length (liveKeys m))) in

@@ -23,23 +23,28 @@ use Rattle.world.proofs.Cases.{on-cond}
 use Rattle.replay.specs.Output.{checked, lineSays, answersFrom, lastOf, closing, judged, outputBy, outputOf}
 use Rattle.replay.specs.Claims.{OutputFits, WholeOutput}
 use Rattle.replay.proofs.Sound.{Sound, few-keys}
-use Rattle.replay.proofs.Same.{body-fits, run-same}
-use Rattle.replay.proofs.Judged.{head-good, sound-fresh}
+use Rattle.replay.proofs.Judged.{good-run}
 
 -- ---- all lines
 
-answers-short : (order : ℕ) (m : Machine) (seen : ℕ) (lines : List Line) → length (answersFrom turnOf order m seen lines) ≤ 62 * length lines
+answers-short : (order : ℕ) (m : Machine) (seen : ℕ) (lines : List Line) → length
+    (answersFrom turnOf order m seen lines) ≤ 62 * length lines
 unfolding answersFrom lineSays
 answers-short order m seen [] = omega arith
 answers-short order m seen (line ∷ rest) =
     simp length-append
-    (omega (arith, said-short (seen + 4) (partyIn line) (partyOf m (partyIn line) .place) (lineTurn turnOf order m line .answer), answers-short order (lineTurn turnOf order m line .memory) (seen + 1) rest))
+    (omega (
+      arith,
+      said-short (seen + 4) (partyIn line) (partyOf m (partyIn line) .place) (lineTurn turnOf order m line .answer),
+      answers-short order (lineTurn turnOf order m line .memory) (seen + 1) rest,
+    ))
 
 body-short : (text : List ℕ) (at left : ℕ) → length (bodyFrom text at left) ≤ left
 unfolding bodyFrom
 body-short text at zero = omega arith
 body-short text at (suc left) =
-    on-cond (λ (l : List Line). length l ≤ suc left) (endsBody (lineAt text at)) [] (lineAt text at ∷ bodyFrom text (nextOf (lineAt text at)) left)
+    on-cond (λ (l : List Line). length l ≤ suc left) (endsBody (lineAt text at)) [] (lineAt text at ∷ bodyFrom text (nextOf
+    (lineAt text at)) left)
     (λ e. omega arith) (λ e. omega (arith, body-short text (nextOf (lineAt text at)) left))
 
 -- ---- the closing lines
@@ -60,15 +65,17 @@ module _ (text : List ℕ) (short : length text ≤ 65536) where
       let head = headOf text in
       let m = fresh (head .nodes) (head .parties) in
       let lines = bodyOf text head in
-      let run = run-same (head .order) m 0 lines (sound-fresh text short (head-good text head good)) (body-fits text (head .next) (mostLines text)) in
-      simp length-append
-      (omega (arith, short, answers-short (head .order) m 0 lines, body-short text (head .next) (length text / 6), closing-short (lastOf turnOf (head .order) m lines) (run .sound)))
+      let answers = answers-short (head .order) m 0 lines in
+      let few = body-short text (head .next) (length text / 6) in
+      let last = closing-short (lastOf turnOf (head .order) m lines) (good-run text short good .sound) in
+      simp length-append (omega (arith, short, answers, few, last))
   judged-short (suc line) bad = bad-short (suc line)
 
 pub output-fits : OutputFits
 unfolding outputBy
 output-fits text =
-    on-cond (λ (l : List ℕ). length l ≤ 786432) (ltb 65536 (length text)) (badLine 0) (judged checked text (headOf text) (firstBad text (headOf text)))
+    on-cond (λ (l : List ℕ). length l ≤ 786432) (ltb 65536 (length text)) (badLine 0) (judged checked text (headOf text)
+    (firstBad text (headOf text)))
     (λ e. bad-short 0) (λ e. judged-short text (ltb-false 65536 (length text) e) (firstBad text (headOf text)) refl)
 
 pub whole-output : WholeOutput

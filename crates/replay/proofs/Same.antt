@@ -61,7 +61,8 @@ line-if false b d c v n w k fits = fits
 line-fits : (text : List ℕ) (at : ℕ) → Fits (lineAt text at)
 unfolding lineAt
 line-fits text at =
-    line-if (eqb (callLine text at .next) lost) (eqb (stepLine text at .next) lost) (eqb (endLine text at .next) lost) (callLine text at) _ _ _ _
+    line-if (eqb (callLine text at .next) lost) (eqb (stepLine text at .next) lost) (eqb (endLine text at .next) lost)
+    (callLine text at) _ _ _ _
     (call-fits text at)
 
 unfoldable pub AllFit : List Line → Type 0
@@ -88,7 +89,8 @@ pub record SameTurn (order : ℕ) (m : Machine) (line : Line) : Type 0 where
   pub path : lineTurn plainTurn order m line ≡ lineTurn turnOf order m line
   pub sound : Sound (lineTurn turnOf order m line .memory)
 
-call-same : (order : ℕ) (m : Machine) (c : CallLine) (answer : Answer ℕ) → loadOf (fieldIn c) 0 order ≡ answer → Sound m → Bytes (fieldIn c) →
+call-same : (order : ℕ) (m : Machine) (c : CallLine) (answer : Answer ℕ) → loadOf (fieldIn c) 0 order ≡ answer → Sound m → Bytes
+    (fieldIn c) →
     (loaded plainTurn m c answer ≡ loaded turnOf m c answer) × Sound (loaded turnOf m c answer .memory)
 unfolding loaded
 call-same order m c (accepted key) e s all =
@@ -97,7 +99,8 @@ call-same order m c (refused number) e s all = (refl, s)
 
 turn-same : (order : ℕ) (m : Machine) (line : Line) → Sound m → Fits line → SameTurn order m line
 unfolding lineTurn
-turn-same order m (Call c) s fits = let r = call-same order m c (loadOf (fieldIn c) 0 order) refl s fits in record { path = r .0; sound = r .1 }
+turn-same order m (Call c) s fits = let r = call-same order m c (loadOf (fieldIn c) 0 order) refl s fits in
+    record { path = r .0; sound = r .1 }
 turn-same order m (Step party next) s fits = record { path = plain-turn m s (moves party); sound = sound-turn m (moves party) s refl }
 turn-same order m (End count next) s fits = record { path = refl; sound = s }
 turn-same order m Bad s fits = record { path = refl; sound = s }
@@ -126,14 +129,15 @@ run-same order m seen (line ∷ rest) s fits =
 pub listed-same : (m : Machine) → Sound m → listed m ≡ liveKeys m
 listed-same m s =
     let many : 4096 ≤ length (zeros 4096) = rw (length-replicate {A = ℕ} 4096 0) (omega arith) in
-    ap keysLeft (sound-listing m s (zeros 4096) many) ∙ take-at (liveKeys m) (drop (length (liveKeys m)) (zeros 4096)) (length (liveKeys m)) refl
+    ap keysLeft (sound-listing m s (zeros 4096) many) ∙ take-at (liveKeys m) (drop (length (liveKeys m)) (zeros 4096)) (length
+    (liveKeys m)) refl
 
 closing-same : (m : Machine) → Sound m → closing plain m ≡ closing checked m
 unfolding closing
 closing-same m s = ap (λ (keys : List ℕ). keyLines keys ++ tallyLines (m .state)) (listed-same m s)
 
-pub played-same : (order : ℕ) (m : Machine) (seen : ℕ) (lines : List Line) → Sound m → AllFit lines →
+pub played-same : (order : ℕ) (m : Machine) (seen : ℕ) (lines : List Line) → SameRun order m seen lines →
     played plain order m seen lines ≡ played checked order m seen lines
-played-same order m seen lines s fits =
-    let r = run-same order m seen lines s fits in
-    rw (r .answers, r .last) (ap (λ (l : List ℕ). answersFrom turnOf order m seen lines ++ l) (closing-same (lastOf turnOf order m lines) (r .sound)))
+played-same order m seen lines run =
+    rw (run .answers, run .last)
+    (ap (λ (l : List ℕ). answersFrom turnOf order m seen lines ++ l) (closing-same (lastOf turnOf order m lines) (run .sound)))

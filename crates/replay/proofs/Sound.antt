@@ -93,7 +93,8 @@ cond-short false keys n h = h
 live-short : (t : Table) (fuel row : ℕ) → length (liveFrom t fuel row) ≤ fuel
 unfolding liveFrom
 live-short t zero row = omega arith
-live-short t (suc fuel) row = cond-short (eqb row 2) _ (suc fuel) (with-key-short (isLive t row) _ _ fuel (live-short t fuel (behind t row)))
+live-short t (suc fuel) row = cond-short (eqb row 2) _ (suc fuel) (with-key-short (isLive t row) _ _ fuel (live-short t fuel
+    (behind t row)))
 
 module _ (m : Machine) (s : Sound m) where
   -- T rows at most are on the chain, and they are in the columns
@@ -104,9 +105,11 @@ module _ (m : Machine) (s : Sound m) where
       let most = table-fits (m .table) (sound-fits m s) .4 in
       omega (arith, short, room, most)
 
-  pub sound-listing : (places : List ℕ) → 4096 ≤ length places → listOf m places ≡ left (placesWith (liveKeys m) places) (accepted (length (liveKeys m)))
+  pub sound-listing : (places : List ℕ) → 4096 ≤ length places → listOf m places ≡ left (placesWith (liveKeys m) places) (accepted
+      (length (liveKeys m)))
   sound-listing places enough =
       let g = is-grown m s in
       let few : length (liveKeys m) ≤ length places = omega (arith, few-keys) in
       let told = rw (← g) at (demands.listed (s .table) (s .parties) (heard m s) (grows m s) .0 places) in
-      told ∙ ap (λ (b : Bool). leaving (refusing b 10 passed) places (left (placesWith (liveKeys m) places) (accepted (length (liveKeys m))))) (le-ltb (length places) (length (liveKeys m)) few)
+      told ∙ ap (λ (b : Bool). leaving (refusing b 10 passed) places (left (placesWith (liveKeys m) places) (accepted (length
+      (liveKeys m))))) (le-ltb (length places) (length (liveKeys m)) few)

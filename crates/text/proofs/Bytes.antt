@@ -14,7 +14,8 @@ use Rattle.text.specs.Claims.{FieldIsBytes}
 abbrev pair : (value next : ℕ) → Pair
 pair value next = record { value = value; next = next }
 
-by-digits : (a b : Bool) (high low next : ℕ) → ltb high 16 ≡ a → ltb low 16 ≡ b → cond a (cond b (pair (high * 16 + low) next) noPair) noPair .value < 256
+by-digits : (a b : Bool) (high low next : ℕ) → ltb high 16 ≡ a → ltb low 16 ≡ b → cond a (cond b (pair
+    (high * 16 + low) next) noPair) noPair .value < 256
 by-digits true true high low next h l = omega (arith, ltb-true high 16 h, ltb-true low 16 l)
 by-digits true false high low next h l = omega arith
 by-digits false b high low next h l = omega arith

@@ -19,7 +19,8 @@ use Rattle.turns.specs.Claims.{PlainIsChecked, KeyLoads}
 abbrev heard : Left Machine (Unit {0}) → Left Machine Said
 heard l = record { memory = l .memory; answer = quiet (l .answer) }
 
-heard-leaving : (tests : Tests) (found changed : Machine) → leaving tests found (left changed going) ≡ heard (leaving tests found (left changed passed))
+heard-leaving : (tests : Tests) (found changed : Machine) → leaving tests found (left changed going) ≡ heard (leaving tests found
+    (left changed passed))
 heard-leaving (accepted done) found changed = refl
 heard-leaving (refused number) found changed = refl
 

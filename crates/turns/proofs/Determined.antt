@@ -14,4 +14,5 @@ party-in-fixed κs given answer₁ answer₂ exit₁ exit₂ = by-equation
 -- the four columns, the state and the answer
 pub line-turn-fixed : OneOutcome {Seen = Table × Stepped} line-turn.Post
     (λ κs answer exit. (tab (exit .0 .now) (exit .1 .0 .now) (exit .1 .1 .0 .now) (exit .1 .1 .1 .0 .now), answer))
-line-turn-fixed κs given answer₁ answer₂ exit₁ exit₂ p q = step-told _ _ (answer₁ .state) (answer₂ .state) (answer₁ .reply) (answer₂ .reply) (by-equation p q)
+line-turn-fixed κs given answer₁ answer₂ exit₁ exit₂ p q = step-told _ _ (answer₁ .state) (answer₂ .state) (answer₁ .reply)
+    (answer₂ .reply) (by-equation p q)

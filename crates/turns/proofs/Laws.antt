@@ -28,14 +28,16 @@ module _ (m : Machine) (party : ℕ) where
   unfolding plainTurn
   calls-on code key asks is named made =
       rw (made, named)
-      (leaves-changed (callAsks (m .state) (rowsIn (m .table)) party code) m (left (bareCallOf m party (callNamed code) key) going) (tests-told asks is))
+      (leaves-changed (callAsks (m .state) (rowsIn (m .table)) party code) m (left (bareCallOf m party
+      (callNamed code) key) going) (tests-told asks is))
 
   pub calls-off : (code key : ℕ) {verdict : Verdict} {why : Refusal} →
       verdictIs verdict ≡ callAsks (m .state) (rowsIn (m .table)) party code → verdict ≡ Refused why →
       left m (refused (numberOf why)) ≡ plainTurn m (calls party code key)
   unfolding plainTurn
   calls-off code key asks is =
-      leaves-found (callAsks (m .state) (rowsIn (m .table)) party code) m (left (bareCallOf m party (callNamed code) key) going) (tests-told asks is)
+      leaves-found (callAsks (m .state) (rowsIn (m .table)) party code) m (left (bareCallOf m party (callNamed code) key) going)
+      (tests-told asks is)
 
   pub moves-on : {verdict : Verdict} {after : Machine} {said : Said} → verdictIs verdict ≡ moveAsks (m .state) party → verdict ≡ Accepted →
       stepped after said ≡ bareMoveOf m party → left after (accepted said) ≡ plainTurn m (moves party)

@@ -23,7 +23,8 @@ returns-2 c =
     let c5 = c4 .before in
     let c6 = c5 .before in
     let c10 = c6 .before .before .before .before in
-    told (c2 .put-bad2 .ensures) (out-bad checked (c10 .args .text .now) (omega arith) (c6 .read-head .ensures) (c5 .first-bad .ensures) (c4 .if2 .taken))
+    told (c2 .put-bad2 .ensures) (out-bad checked (c10 .args .text .now) (omega arith) (c6 .read-head .ensures)
+    (c5 .first-bad .ensures) (c4 .if2 .taken))
 
 run-new-requires : tie.Need-run-new-requires
 run-new-requires c κs =
@@ -31,7 +32,8 @@ run-new-requires c κs =
     let c2 = c1 .before in
     let c3 = c2 .before in
     let c7 = c3 .before .before .before .before in
-    rw (c3 .read-head .ensures) (rows-fit (c7 .args .text .now) (omega arith) (head-good (c7 .args .text .now) _ (ap (firstBad (c7 .args .text .now)) (sym (c3 .read-head .ensures)) ∙ sym (c2 .first-bad .ensures) ∙ c1 .if2 .left)))
+    rw (c3 .read-head .ensures) (rows-fit (c7 .args .text .now) (omega arith) (head-good (c7 .args .text .now) _ (ap (firstBad
+    (c7 .args .text .now)) (sym (c3 .read-head .ensures)) ∙ sym (c2 .first-bad .ensures) ∙ c1 .if2 .left)))
 
 returns-3 : tie.Need-returns-3
 returns-3 c =
@@ -40,7 +42,8 @@ returns-3 c =
     let c5 = c4 .before in
     let c6 = c5 .before in
     let c10 = c6 .before .before .before .before in
-    told (c2 .run-new .ensures) (out-good plain (c10 .args .text .now) (omega arith) (c6 .read-head .ensures) (c5 .first-bad .ensures) (c4 .if2 .left) ∙ same-output (c10 .args .text .now))
+    told (c2 .run-new .ensures) (out-good plain (c10 .args .text .now) (omega arith) (c6 .read-head .ensures)
+    (c5 .first-bad .ensures) (c4 .if2 .left) ∙ same-output (c10 .args .text .now))
 
 pub replay-spec : {M : Type 1} → statement M
 replay-spec =

@@ -38,7 +38,8 @@ add-run-line c =
 
 add-seen : tie.Need-add-seen Inv-loop μ-loop
 add-seen c =
-    let c22 = c .before .before .before .before .before .before .before .before .before .before .before .before .before .before .before .before .before .before .before .before .before .before in
+    let c22 = c .before .before .before .before .before .before .before .before .before .before .before .before .before .before
+    .before .before .before .before .before .before .before .before in
     omega (arith, c22 .loop .inv .0)
 
 loop-again : tie.Need-loop-again Inv-loop μ-loop
@@ -56,7 +57,8 @@ loop-again c =
       c12 .run-line .kept .1 .1 .1 .0 ∙ c22 .loop .inv .4,
       c12 .run-line .kept .1 .1 .1 .1 .1 .1 .1 .1 .0 ∙ c22 .loop .inv .5,
       λ x w. c22 .loop .inv .6 x (told (on (c12 .run-line .ensures .1) w)
-          (played-on (c30 .args .text .now) (c30 .args .head .order) _ (c22 .loop .seen) (c22 .loop .at) (c22 .loop .left) _ (omega arith) (c20 .line-at .ensures)
+          (played-on (c30 .args .text .now) (c30 .args .head .order) _ (c22 .loop .seen) (c22 .loop .at) (c22 .loop .left) _
+          (omega arith) (c20 .line-at .ensures)
           (sym (c19 .ends-body .ensures) ∙ c18 .if1 .left) (c12 .run-line .ensures .0) (c .next-of .ensures))),
     )
 
@@ -67,9 +69,11 @@ returns c =
     let c9 = c8 .before in
     let c10 = c9 .before in
     let c17 = c10 .before .before .before .before .before .before .before in
-    told (c9 .loop .inv .6 _ (told (c2 .put-closing .ensures) (played-end (c17 .args .text .now) (c17 .args .head .order) _ (c9 .loop .seen) (c9 .loop .at) (c9 .loop .left)
+    told (c9 .loop .inv .6 _ (told (c2 .put-closing .ensures) (played-end (c17 .args .text .now) (c17 .args .head .order) _
+    (c9 .loop .seen) (c9 .loop .at) (c9 .loop .left)
     (⊎-elim (λ a. body-none (c17 .args .text .now) (c9 .loop .at) (c9 .loop .left) (omega (arith, a .left)))
-    (λ b. body-stop (c17 .args .text .now) (c9 .loop .at) (c9 .loop .left) (ap endsBody (sym (b .1 .ensures)) ∙ sym (b .2 .ensures) ∙ b .3 .taken)) (c8 .loop-test .came)))))
+    (λ b. body-stop (c17 .args .text .now) (c9 .loop .at) (c9 .loop .left) (ap endsBody (sym (b .1 .ensures)) ∙ sym
+    (b .2 .ensures) ∙ b .3 .taken)) (c8 .loop-test .came)))))
     (ap (playedFrom (c17 .args .text .now) (c17 .args .head .order) _ 0 (c17 .args .head .next)) (c10 .most-lines .ensures))
 
 pub run-body-spec : {M : Type 1} → statement M

@@ -17,7 +17,8 @@ returns c =
     let c25 = c10 .before .before .before .before .before .before .before .before .before .before .before .before .before .before .before in
     let c36 = c25 .before .before .before .before .before .before .before .before .before .before .before in
     told (c10 .run-body .ensures)
-    (ap (λ (l : Left Machine (Unit {0})). played plain (c36 .args .head .order) (l .memory) 0 (bodyOf (c36 .args .text .now) (c36 .args .head))) (c25 .set-up .ensures))
+    (ap (λ (l : Left Machine (Unit {0})). played plain (c36 .args .head .order) (l .memory) 0 (bodyOf (c36 .args .text .now)
+    (c36 .args .head))) (c25 .set-up .ensures))
 
 pub run-in-spec : {M : Type 1} → statement M
 run-in-spec =

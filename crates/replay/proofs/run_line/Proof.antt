@@ -17,7 +17,8 @@ returns c =
     let c18 = c13 .before .before .before .before .before in
     let c19 = c18 .before in (
       ap (λ (l : Left Machine Said). l .memory) (c13 .line-turn .ensures),
-      told (c2 .put-reply .ensures) (says-so _ _ _ _ _ (c19 .party-in .ensures) (c18 .party-at .ensures) (ap (λ (l : Left Machine Said). l .answer) (c13 .line-turn .ensures))),
+      told (c2 .put-reply .ensures) (says-so _ _ _ _ _ (c19 .party-in .ensures) (c18 .party-at .ensures) (ap (λ
+          (l : Left Machine Said). l .answer) (c13 .line-turn .ensures))),
     )
 
 pub run-line-spec : {M : Type 1} → statement M

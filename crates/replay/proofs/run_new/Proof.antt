@@ -38,7 +38,8 @@ returns c =
     let c6 = c .before .before .before .before .before .before in
     let c15 = c6 .before .before .before .before .before .before .before .before .before in
     told (c6 .run-in .ensures)
-    (ap (λ (l : List ℕ). played plain (c15 .args .head .order) (setUpOf (tab l l l l) (c15 .args .head .parties) .memory) 0 (bodyOf (c15 .args .text .now) (c15 .args .head)))
+    (ap (λ (l : List ℕ). played plain (c15 .args .head .order) (setUpOf (tab l l l l) (c15 .args .head .parties) .memory) 0
+    (bodyOf (c15 .args .text .now) (c15 .args .head)))
     (part-zeros 4096 (c15 .args .head .nodes) (c15 .pre)))
 
 pub run-new-spec : {M : Type 1} → statement M

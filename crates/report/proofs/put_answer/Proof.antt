@@ -18,7 +18,8 @@ returns c =
     let c21 = c17 .before .before .before .before in
     let c26 = c21 .before .before .before .before .before in
     let c30 = c26 .before .before .before .before in
-    on (on (on (on (on (on (c30 .put .ensures) (c26 .put-number .ensures)) (c21 .put2 .ensures)) (told (c16 .put-asked .ensures) (ap askedText (c17 .asked-at .ensures))))
+    on (on (on (on (on (on (c30 .put .ensures) (c26 .put-number .ensures)) (c21 .put2 .ensures)) (told (c16 .put-asked .ensures)
+    (ap askedText (c17 .asked-at .ensures))))
     (c11 .put3 .ensures)) (c7 .put4 .ensures)) (c2 .put5 .ensures)
 
 pub put-answer-spec : {M : Type 1} → statement M

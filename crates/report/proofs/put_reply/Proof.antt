@@ -15,7 +15,8 @@ returns c =
     let c2 = c .before .before in
     let c5 = c2 .before .before .before in
     let c8 = c5 .before .before .before in
-    told (c2 .put-heard .ensures) (ap (λ (r : Reply). saidBy (c8 .args .line) (c8 .args .party) (c8 .args .place) (replyIs r)) (sym (c5 .reply .given .1)))
+    told (c2 .put-heard .ensures) (ap (λ (r : Reply). saidBy (c8 .args .line) (c8 .args .party) (c8 .args .place) (replyIs r))
+    (sym (c5 .reply .given .1)))
 
 returns-2 : tie.Need-returns-2
 unfolding saidBy
