@@ -54,13 +54,13 @@ none-lost false false true e = absurd (omega arith)
 none-lost false false false e = (refl, refl, refl)
 
 -- none of the three lines is lost
-abbrev Kept : List ℕ → Type 0
+abbrev pub Kept : List ℕ → Type 0
 Kept text =
     let p = partiesLine text .next in
     let n = nodesLine text p .next in
     (eqb p lost ≡ false) × (eqb n lost ≡ false) × (eqb (orderLine text n .next) lost ≡ false)
 
-kept : (text : List ℕ) → headOf text .bad ≡ 0 → Kept text
+pub kept : (text : List ℕ) → headOf text .bad ≡ 0 → Kept text
 unfolding headOf firstLost
 kept text e =
     let p = partiesLine text .next in
@@ -83,7 +83,7 @@ held : (t : Bool) (at : ℕ) → eqb (only t at) lost ≡ false → t ≡ true
 held true at e = refl
 held false at e = absurd (eqb-false lost lost e refl)
 
-both : (a b : Bool) → a && b ≡ true → (a ≡ true) × (b ≡ true)
+pub both : (a b : Bool) → a && b ≡ true → (a ≡ true) × (b ≡ true)
 both true b e = (refl, e)
 both false b e = absurd (true≢false (sym e))
 

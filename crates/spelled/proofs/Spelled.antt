@@ -71,7 +71,7 @@ turns-stay text x y j (suc i) e stays =
 
 -- a number of one digit in a text
 module _ (most n : ℕ) (small : n < 10) (before : List ℕ) where
-  one-is : digits (suc most) n ≡ (48 + n) ∷ []
+  pub one-is : digits (suc most) n ≡ (48 + n) ∷ []
   unfolding digits
   one-is = simp (lt-ltb n 10 small)
 
@@ -83,7 +83,7 @@ module _ (most n : ℕ) (small : n < 10) (before : List ℕ) where
 
 -- a longer one: its front digits, and its last
 module _ (most n : ℕ) (large : 10 ≤ n) (before : List ℕ) where
-  more-is : before ++ digits (suc most) n ≡ before ++ digits most (n / 10) ++ ((48 + n % 10) ∷ [])
+  pub more-is : before ++ digits (suc most) n ≡ before ++ digits most (n / 10) ++ ((48 + n % 10) ∷ [])
   unfolding digits
   more-is = simp (le-ltb n 10 large) (sym (append-assoc before (digits most (n / 10)) ((48 + n % 10) ∷ [])))
 
