@@ -3,7 +3,7 @@
 use mathlib.Core.Path.{_≡_, refl, ap, sym, subst, _∙_}
 use mathlib.Core.Bool.{Bool, true, false, cond, true≢false}
 use mathlib.Core.List.{List, [], _∷_, _++_, append-assoc}
-use Prim.Native.Nat.{ℕ, zero, suc, _+_, _<_, _≤_}
+use Prim.Native.Nat.{ℕ, zero, suc, _+_, _*_, _<_, _≤_}
 use Prim.Native.String.{String}
 use native.Mathlib.Nat.{add-zero}
 use native.Mathlib.Omega.{arith}
@@ -15,7 +15,7 @@ use Rattle.text.specs.Reading.{bytes, lost, byteAt, placeAfter, word, only, dig
 use Rattle.text.specs.declared.Number.{Number}
 use Rattle.page.specs.Page.{decimal}
 use Rattle.script.specs.Lines.{lineEnd}
-use Rattle.spelled.specs.Schedule.{AllHex, numberText}
+use Rattle.spelled.specs.Schedule.{bytePairs, AllHex, numberText}
 use Rattle.spelled.proofs.Spelled.{reads-back}
 
 -- from a place within the text on, these bytes are all that lies ahead
@@ -33,7 +33,12 @@ clash-if : (t c : Bool) (x : ℕ) → cond t c true ≡ true → (c ≡ true →
 clash-if true c x h f = f h
 clash-if false c x h f = refl
 
--- so many pairs of hex digits
+-- the bytes of so many pairs of hex digits
+abbrev pairsAt : List ℕ → (at pairs : ℕ) → List ℕ
+pairsAt text at zero = []
+pairsAt text at (suc k) = pairAt text at .value ∷ pairsAt text (pairAt text at .next) k
+
+-- and the place behind them
 abbrev pairsFrom : List ℕ → (at pairs : ℕ) → ℕ
 pairsFrom text at zero = at
 pairsFrom text at (suc k) = pairsFrom text (pairAt text at .next) k
@@ -102,23 +107,27 @@ module _ {text : List ℕ} where
       )
 
   pair-lies : (a b : ℕ) (ahead : List ℕ) {at : ℕ} → hexOf a < 16 → hexOf b < 16 → Lies text at (a ∷ b ∷ ahead)
-      → Lies text (pairAt text at .next) ahead
+      → (pairAt text at .value ≡ hexOf a * 16 + hexOf b) × Lies text (pairAt text at .next) ahead
   unfolding pairAt
   pair-lies a b ahead {at = at} g h l =
       let m = after-lies a (b ∷ ahead) l in
-      rw (byte-is a (b ∷ ahead) l, byte-is b ahead m, lt-ltb (hexOf a) 16 g, lt-ltb (hexOf b) 16 h) (after-lies b ahead m)
+      rw (byte-is a (b ∷ ahead) l, byte-is b ahead m, lt-ltb (hexOf a) 16 g, lt-ltb (hexOf b) 16 h)
+      (refl, after-lies b ahead m)
 
   pairs-lie : (k : ℕ) (ds ahead : List ℕ) {at : ℕ} → length ds ≡ k + k → AllHex ds → Lies text at (ds ++ ahead)
-      → Lies text (pairsFrom text at k) ahead
-  pairs-lie zero [] ahead long hex l = l
+      → (pairsAt text at k ≡ bytePairs ds) × Lies text (pairsFrom text at k) ahead
+  pairs-lie zero [] ahead long hex l = (refl, l)
   pairs-lie zero (a ∷ ds) ahead long hex l = absurd (omega arith)
   pairs-lie (suc k) [] ahead long hex l = absurd (omega arith)
   pairs-lie (suc k) (a ∷ []) ahead long hex l = absurd (omega arith)
   pairs-lie (suc k) (a ∷ b ∷ ds) ahead long hex l =
-      pairs-lie k ds ahead (omega arith) (hex .1 .1) (pair-lies a b (ds ++ ahead) (hex .0) (hex .1 .0) l)
+      let p = pair-lies a b (ds ++ ahead) (hex .0) (hex .1 .0) l in
+      let more = pairs-lie k ds ahead (omega arith) (hex .1 .1) (p .1) in
+      (rw (p .0, more .0) refl, more .1)
 
   pub field-lies : (ds ahead : List ℕ) {at : ℕ} → length ds ≡ 8 → AllHex ds → Lies text at (ds ++ ahead)
-      → Lies text (fieldAt text at .next) ahead
+      → let f = fieldAt text at in
+      (f .b0 ∷ f .b1 ∷ f .b2 ∷ f .b3 ∷ [] ≡ bytePairs ds) × Lies text (f .next) ahead
   unfolding fieldAt
   field-lies ds ahead long hex l = pairs-lie 4 ds ahead long hex l
 

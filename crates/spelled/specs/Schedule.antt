@@ -4,7 +4,7 @@ use mathlib.Core.Logic.{_⊎_}
 use mathlib.Core.Path.{_≡_}
 use mathlib.Core.Bool.{cond}
 use mathlib.Core.List.{List, [], _∷_, _++_}
-use Prim.Native.Nat.{ℕ, _<_, _≤_}
+use Prim.Native.Nat.{ℕ, _+_, _*_, _<_, _≤_}
 use Prim.Native.String.{String}
 use lib.ListN.{length}
 use lib.Dec.{eqb}
@@ -15,6 +15,12 @@ use Rattle.page.specs.Page.{decimal}
 pub data Item : Type 0 where
   calls : (party code : ℕ) (digits : List ℕ) → Item
   steps : (party : ℕ) → Item
+
+-- two hex digits are a byte
+abbrev pub bytePairs : List ℕ → List ℕ
+bytePairs [] = []
+bytePairs (high ∷ []) = []
+bytePairs (high ∷ low ∷ rest) = (hexOf high * 16 + hexOf low) ∷ bytePairs rest
 
 -- order code 0 is big, 1 is little
 pub record Schedule : Type 0 where
