@@ -45,7 +45,8 @@ plain = record { turn = plainTurn; keys = listed }
 
 -- what is printed for the line of this number: the answer or the refusal, as it falls
 unfoldable pub lineSays : Turns → (order : ℕ) → Machine → (number : ℕ) → Line → List ℕ
-lineSays turn order m number line = saidBy number (partyIn line) (partyOf m (partyIn line) .place) (lineTurn turn order m line .answer)
+lineSays turn order m number line =
+    let party = partyIn line in saidBy number party (partyOf m party .place) (lineTurn turn order m line .answer)
 
 -- the lines of the body are numbered from 4
 unfoldable pub answersFrom : Turns → (order : ℕ) → Machine → (seen : ℕ) → List Line → List ℕ

@@ -16,8 +16,7 @@ mostLines text = length text / 6
 -- the calls and steps from a place on, at most so many
 unfoldable pub bodyFrom : List ℕ → (at left : ℕ) → List Line
 bodyFrom text at zero = []
-bodyFrom text at (suc left) =
-    cond (endsBody (lineAt text at)) [] (lineAt text at ∷ bodyFrom text (nextOf (lineAt text at)) left)
+bodyFrom text at (suc left) = let line = lineAt text at in cond (endsBody line) [] (line ∷ bodyFrom text (nextOf line) left)
 
 -- ---- the first bad line, or 0
 
@@ -35,7 +34,7 @@ lastBad seen Bad len = seen + 4
 unfoldable pub badFrom : List ℕ → (seen at left : ℕ) → ℕ
 badFrom text seen at zero = seen + 4
 badFrom text seen at (suc left) =
-    cond (endsBody (lineAt text at)) (lastBad seen (lineAt text at) (length text)) (badFrom text (seen + 1) (nextOf (lineAt text at)) left)
+    let line = lineAt text at in cond (endsBody line) (lastBad seen line (length text)) (badFrom text (seen + 1) (nextOf line) left)
 
 -- of a whole text, whose head this is: the head comes first
 unfoldable pub firstBad : List ℕ → Head → ℕ

@@ -9,30 +9,27 @@ use Rattle.script.specs.Lines.{lineEnd}
 use Rattle.script.specs.declared.Head.{Head}
 
 -- parties=, 1 to 16
-abbrev pub partiesNumbered : List ℕ → Number → Number
-partiesNumbered text n = numeral (n .value) (only (leb 1 (n .value) && leb (n .value) 16) (lineEnd text (n .next)))
-
 unfoldable pub partiesLine : List ℕ → Number
-partiesLine text = partiesNumbered text (numberAt text (word text 0 (bytes "parties=")))
+partiesLine text =
+    let n = numberAt text (word text 0 (bytes "parties=")) in
+    numeral (n .value) (only (leb 1 (n .value) && leb (n .value) 16) (lineEnd text (n .next)))
 
 -- nodes=0 stands for 64
 unfoldable pub rowsOf : ℕ → ℕ
 rowsOf nodes = cond (eqb nodes 0) 64 nodes
 
 -- nodes=, 0 or 4 to 4,096
-abbrev pub nodesNumbered : List ℕ → Number → Number
-nodesNumbered text n =
-    numeral (rowsOf (n .value)) (only (eqb (n .value) 0 || (leb 4 (n .value) && leb (n .value) 4096)) (lineEnd text (n .next)))
-
 unfoldable pub nodesLine : List ℕ → ℕ → Number
-nodesLine text at = nodesNumbered text (numberAt text (word text at (bytes "nodes=")))
+nodesLine text at =
+    let n = numberAt text (word text at (bytes "nodes=")) in
+    numeral (rowsOf (n .value)) (only (eqb (n .value) 0 || (leb 4 (n .value) && leb (n .value) 4096)) (lineEnd text (n .next)))
 
 -- order=big is order code 0, order=little is 1
 unfoldable pub orderLine : List ℕ → ℕ → Number
 orderLine text at =
-    cond (eqb (word text at (bytes "order=big\n")) lost)
-    (numeral 1 (word text at (bytes "order=little\n")))
-    (numeral 0 (word text at (bytes "order=big\n")))
+    let big = word text at (bytes "order=big\n") in
+    let little = word text at (bytes "order=little\n") in
+    cond (eqb big lost) (numeral 1 little) (numeral 0 big)
 
 -- ---- the three together
 
@@ -40,8 +37,12 @@ orderLine text at =
 unfoldable pub firstLost : (parties nodes order : ℕ) → ℕ
 firstLost parties nodes order = cond (eqb parties lost) 1 (cond (eqb nodes lost) 2 (cond (eqb order lost) 3 0))
 
-abbrev pub headOf3 : (parties nodes order : Number) → Head
-headOf3 p n o =
+-- each line starts where the one before it ends
+unfoldable pub headOf : List ℕ → Head
+headOf text =
+    let p = partiesLine text in
+    let n = nodesLine text (p .next) in
+    let o = orderLine text (n .next) in
     record {
       parties = p .value;
       nodes = n .value;
@@ -49,12 +50,3 @@ headOf3 p n o =
       next = o .next;
       bad = firstLost (p .next) (n .next) (o .next);
     }
-
-abbrev pub headOf2 : List ℕ → (parties nodes : Number) → Head
-headOf2 text p n = headOf3 p n (orderLine text (n .next))
-
-abbrev pub headOf1 : List ℕ → (parties : Number) → Head
-headOf1 text p = headOf2 text p (nodesLine text (p .next))
-
-unfoldable pub headOf : List ℕ → Head
-headOf text = headOf1 text (partiesLine text)

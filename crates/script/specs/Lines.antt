@@ -5,7 +5,6 @@ use Prim.Native.Nat.{ℕ}
 use lib.Dec.{eqb, leb}
 use Rattle.text.specs.Reading.{bytes, lost, word, only, numeral, numberAt, fieldAt}
 use Rattle.text.specs.declared.Number.{Number}
-use Rattle.text.specs.declared.Field.{Field}
 use Rattle.script.specs.declared.Verb.{Verb}
 use Rattle.script.specs.declared.CallLine.{CallLine}
 use Rattle.script.specs.declared.Line.{Line}
@@ -23,15 +22,17 @@ verb code next = record { code = code; next = next }
 -- the call's name as its code
 unfoldable pub verbAt : List ℕ → ℕ → Verb
 verbAt text at =
-    cond (eqb (word text at (bytes " add ")) lost)
-    (cond (eqb (word text at (bytes " remove ")) lost)
-    (verb 2 (word text at (bytes " contains ")))
-    (verb 1 (word text at (bytes " remove "))))
-    (verb 0 (word text at (bytes " add ")))
+    let add = word text at (bytes " add ") in
+    let remove = word text at (bytes " remove ") in
+    let contains = word text at (bytes " contains ") in
+    cond (eqb add lost) (cond (eqb remove lost) (verb 2 contains) (verb 1 remove)) (verb 0 add)
 
 -- P is 0 to 99
-abbrev pub callWith : List ℕ → Number → Verb → Field → CallLine
-callWith text n v f =
+unfoldable pub callLine : List ℕ → ℕ → CallLine
+callLine text at =
+    let n = numberAt text (word text at (bytes "call=")) in
+    let v = verbAt text (n .next) in
+    let f = fieldAt text (v .next) in
     record {
       party = n .value;
       code = v .code;
@@ -42,42 +43,30 @@ callWith text n v f =
       next = only (leb (n .value) 99) (lineEnd text (f .next));
     }
 
-abbrev pub callNamed : List ℕ → Number → Verb → CallLine
-callNamed text n v = callWith text n v (fieldAt text (v .next))
-
-abbrev pub callNumbered : List ℕ → Number → CallLine
-callNumbered text n = callNamed text n (verbAt text (n .next))
-
-unfoldable pub callLine : List ℕ → ℕ → CallLine
-callLine text at = callNumbered text (numberAt text (word text at (bytes "call=")))
-
 -- ---- step=P
 
-abbrev pub stepNumbered : List ℕ → Number → Number
-stepNumbered text n = numeral (n .value) (only (leb (n .value) 99) (lineEnd text (n .next)))
-
 unfoldable pub stepLine : List ℕ → ℕ → Number
-stepLine text at = stepNumbered text (numberAt text (word text at (bytes "step=")))
+stepLine text at =
+    let n = numberAt text (word text at (bytes "step=")) in numeral (n .value) (only (leb (n .value) 99) (lineEnd text (n .next)))
 
 -- ---- end= with a number
 
-abbrev pub endNumbered : List ℕ → Number → Number
-endNumbered text n = numeral (n .value) (lineEnd text (n .next))
-
 unfoldable pub endLine : List ℕ → ℕ → Number
-endLine text at = endNumbered text (numberAt text (word text at (bytes "end=")))
+endLine text at = let n = numberAt text (word text at (bytes "end=")) in numeral (n .value) (lineEnd text (n .next))
 
 -- ---- the line at a place
 
 -- one of the three, or bad
 unfoldable pub lineAt : List ℕ → ℕ → Line
 lineAt text at =
-    cond (eqb (callLine text at .next) lost)
-    (cond (eqb (stepLine text at .next) lost)
-    (cond (eqb (endLine text at .next) lost) Bad
-    (End (endLine text at .value) (endLine text at .next)))
-    (Step (stepLine text at .value) (stepLine text at .next)))
-    (Call (callLine text at))
+    let c = callLine text at in
+    let s = stepLine text at in
+    let e = endLine text at in
+    cond (eqb (c .next) lost)
+    (cond (eqb (s .next) lost)
+    (cond (eqb (e .next) lost) Bad (End (e .value) (e .next)))
+    (Step (s .value) (s .next)))
+    (Call c)
 
 -- a call or a step is followed by another line; anything else is the last
 abbrev pub endsBody : Line → Bool

@@ -47,16 +47,15 @@ numeral value next = record { value = value; next = next }
 
 -- a number starts with a digit
 abbrev pub firstDigit : List ℕ → ℕ → Number
-firstDigit text at =
-    cond (ltb (digitOf (byteAt text at)) 10) (numeral (digitOf (byteAt text at)) (placeAfter text at)) (numeral 0 lost)
+firstDigit text at = let d = digitOf (byteAt text at) in cond (ltb d 10) (numeral d (placeAfter text at)) (numeral 0 lost)
 
 -- one digit more, where one stands: but none behind a 0 in front, and none behind five digits
 unfoldable pub nextDigit : List ℕ → Number → Number
 nextDigit text n =
+    let d = digitOf (byteAt text (n .next)) in
     cond (eqb (n .value) 0) n
     (cond (ltb (n .value) 10000)
-    (cond (ltb (digitOf (byteAt text (n .next))) 10)
-    (numeral (n .value * 10 + digitOf (byteAt text (n .next))) (placeAfter text (n .next))) n) n)
+    (cond (ltb d 10) (numeral (n .value * 10 + d) (placeAfter text (n .next))) n) n)
 
 -- No number of a schedule has more than five digits: a sixth one then stands where its line has to end.
 abbrev pub numberAt : List ℕ → ℕ → Number
@@ -80,21 +79,16 @@ noPair = record { value = 0; next = lost }
 -- two hex digits are a byte
 unfoldable pub pairAt : List ℕ → ℕ → Pair
 pairAt text at =
-    cond (ltb (hexOf (byteAt text at)) 16)
-    (cond (ltb (hexOf (byteAt text (placeAfter text at))) 16)
-    (record {
-      value = hexOf (byteAt text at) * 16 + hexOf (byteAt text (placeAfter text at));
-      next = placeAfter text (placeAfter text at);
-    })
-    noPair) noPair
+    let second = placeAfter text at in
+    let high = hexOf (byteAt text at) in
+    let low = hexOf (byteAt text second) in
+    cond (ltb high 16) (cond (ltb low 16) (record { value = high * 16 + low; next = placeAfter text second }) noPair) noPair
 
 -- four of them are a field
 unfoldable pub fieldAt : List ℕ → ℕ → Field
 fieldAt text at =
-    record {
-      b0 = pairAt text at .value;
-      b1 = pairAt text (pairAt text at .next) .value;
-      b2 = pairAt text (pairAt text (pairAt text at .next) .next) .value;
-      b3 = pairAt text (pairAt text (pairAt text (pairAt text at .next) .next) .next) .value;
-      next = pairAt text (pairAt text (pairAt text (pairAt text at .next) .next) .next) .next;
-    }
+    let p = pairAt text at in
+    let q = pairAt text (p .next) in
+    let r = pairAt text (q .next) in
+    let s = pairAt text (r .next) in
+    record { b0 = p .value; b1 = q .value; b2 = r .value; b3 = s .value; next = s .next }
