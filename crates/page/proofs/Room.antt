@@ -12,7 +12,7 @@ use lib.Seq.{sets, sets-eq, take-set-le}
 use lib.Dec.{ltb}
 use borrow.Author.Tests.{lt-ltb}
 use Rattle.page.specs.Page.{Page, page, putByte, put, digits}
-use Rattle.page.specs.Claims.{Room, Bounded, DigitsAreFew, DecimalIsWhole}
+use Rattle.page.specs.Claims.{Room, KeepsBefore, DigitsAreFew, DecimalIsWhole}
 
 -- ---- bytes
 
@@ -48,8 +48,8 @@ put-keeps start (byte ∷ rest) p h =
     let all = put-keeps start rest (putByte p byte) (one .0) in
     (all .0, all .1 ∙ one .1, all .2 ∙ one .2)
 
-pub bounded : Bounded
-bounded out bytes at after wrote =
+pub keeps-before : KeepsBefore
+keeps-before out bytes at after wrote =
     let kept = put-keeps at bytes (page out at) (omega arith) in
     (ap (λ (p : Page). length (p .out)) (wrote .path) ∙ kept .1, ap (λ (p : Page). take at (p .out)) (wrote .path) ∙ kept .2)
 

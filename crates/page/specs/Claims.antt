@@ -11,8 +11,8 @@ Room = (out bytes : List ℕ) (at : ℕ) (after : Page) → at + length bytes �
     after ≡ page (take at out ++ bytes ++ drop (at + length bytes) out) (at + length bytes)
 
 -- a buffer keeps its length, and its bytes before the place
-abbrev pub Bounded : Type 0
-Bounded = (out bytes : List ℕ) (at : ℕ) (after : Page) → Wrote (page out at) bytes after →
+abbrev pub KeepsBefore : Type 0
+KeepsBefore = (out bytes : List ℕ) (at : ℕ) (after : Page) → Wrote (page out at) bytes after →
     (length (after .out) ≡ length out) × (take at (after .out) ≡ take at out)
 
 -- a number has no more digits than it may have

@@ -14,7 +14,7 @@ pub record Page : Type 0 where
 abbrev pub page : List ℕ → ℕ → Page
 page out at = record { out = out; at = at }
 
--- one byte more; a full buffer stays as it is
+-- one byte more; at or past the end nothing is written, and the place stays
 abbrev pub putByte : Page → ℕ → Page
 putByte p byte = cond (ltb (p .at) (length (p .out))) (page (set (p .out) (p .at) byte) (p .at + 1)) p
 
@@ -23,7 +23,7 @@ unfoldable pub put : Page → List ℕ → Page
 put p [] = p
 put p (byte ∷ rest) = put (putByte p byte) rest
 
--- one page comes from another by writing these bytes, and nothing else
+-- one page comes from another by writing these bytes, as far as they have room, and nothing else
 pub record Wrote (before : Page) (bytes : List ℕ) (after : Page) : Type 0 where
   pub path : after ≡ put before bytes
 

@@ -2,7 +2,7 @@
 ghost use mathlib.Core.List.{[], _∷_};
 ghost use Rattle.page.specs.Page.{page, Wrote, digits, decimal};
 
-// One byte; the answer is the place behind it.
+// One byte, if there is room; the answer is the place of the next.
 fn put_byte(out: &mut [u8], at: usize, byte: u8) -> usize
     ensures { λ r. ⌜ Wrote (page (now (out .entry)) at) (byte ∷ []) (page (now (out .exit)) r) ⌝ }
 {
@@ -13,7 +13,7 @@ fn put_byte(out: &mut [u8], at: usize, byte: u8) -> usize
     at
 }
 
-// Some bytes; the answer is the place behind them.
+// Some bytes, as far as there is room; the answer is the place behind what was put.
 pub fn put(out: &mut [u8], at: usize, bytes: &[u8]) -> usize
     ensures { λ r. ⌜ Wrote (page (now (out .entry)) at) (now (bytes .entry)) (page (now (out .exit)) r) ⌝ }
 {
@@ -26,7 +26,7 @@ pub fn put(out: &mut [u8], at: usize, bytes: &[u8]) -> usize
     to
 }
 
-// A number in at most so many digits, from its last digit backwards.
+// A number in at most so many digits: those before its last one, then the last.
 fn put_digits(out: &mut [u8], at: usize, n: u64, most: usize) -> usize
     ensures { λ r. ⌜ Wrote (page (now (out .entry)) at) (digits most n) (page (now (out .exit)) r) ⌝ }
 {
@@ -40,7 +40,7 @@ fn put_digits(out: &mut [u8], at: usize, n: u64, most: usize) -> usize
     put_byte(out, on, 48 + (n % 10) as u8)
 }
 
-// A number in decimal; the answer is the place behind it.
+// A number in decimal, as far as there is room; the answer is the place behind what was put.
 pub fn put_number(out: &mut [u8], at: usize, n: u64) -> usize
     ensures { λ r. ⌜ Wrote (page (now (out .entry)) at) (decimal n) (page (now (out .exit)) r) ⌝ }
 {

@@ -12,19 +12,25 @@ use Rattle.field.specs.Field as field
 use Rattle.list.specs.Engine.{setUpOf, callOf, moveOf}
 use Rattle.text.specs.Reading.{word, placeAfter, digitOf, nextDigit, hexOf, pairAt, fieldAt}
 use Rattle.page.specs.Page.{digits}
-use Rattle.report.specs.Lines.{callName, askedText, answerLine, refusedLine, heard, saidBy, numbered, keyLines, tallyLines}
+use Rattle.report.specs.Lines.{callName, askedText, answerLine, refusedLine, heard, saidBy, numberLine, keyLines, tallyLines}
 use Rattle.script.specs.Lines.{verbAt, callLine, stepLine, endLine, lineAt}
 use Rattle.script.specs.Head.{rowsOf, partiesLine, nodesLine, orderLine, firstLost, headOf}
 use Rattle.script.specs.Body.{mostLines, bodyFrom, endBad, lastBad, badFrom, firstBad}
 use Rattle.turns.specs.Turns.{loaded, lineTurn}
-use Rattle.replay.specs.Output.{lineSays, answersFrom, lastOf, closing, outputBy}
+use Rattle.replay.specs.Output.{lineSays, saysFrom, lastOf, closing, outputBy}
 use Rattle.replay.specs.Examples.{Examples}
 
 pub examples : Examples
-unfolding word placeAfter digitOf nextDigit hexOf pairAt fieldAt digits callName askedText answerLine refusedLine heard saidBy numbered keyLines tallyLines verbAt callLine stepLine endLine lineAt rowsOf partiesLine nodesLine orderLine firstLost headOf mostLines bodyFrom endBad lastBad badFrom firstBad loaded lineTurn lineSays answersFrom lastOf closing outputBy setUpOf callOf moveOf rises liveFrom goodForm kindsFit keysFit linksFit recordFits partiesFit bareCallOf begunOf bareMoveOf walkOf onwardOf landedAddOf landedRemoveOf landedContainsOf prepareOf skipOf addSwapOf markOf rereadOf cleanOf backOf lookOf rank numberIn fieldTests loadOf field.fieldAt
+unfolding word placeAfter digitOf nextDigit hexOf pairAt fieldAt digits callName askedText answerLine refusedLine heard saidBy numberLine keyLines tallyLines verbAt callLine stepLine endLine lineAt rowsOf partiesLine nodesLine orderLine firstLost headOf mostLines bodyFrom endBad lastBad badFrom firstBad loaded lineTurn lineSays saysFrom lastOf closing outputBy setUpOf callOf moveOf rises liveFrom goodForm kindsFit keysFit linksFit recordFits partiesFit bareCallOf begunOf bareMoveOf walkOf onwardOf landedAddOf landedRemoveOf landedContainsOf prepareOf skipOf addSwapOf markOf rereadOf cleanOf backOf lookOf rank numberIn fieldTests loadOf field.fieldAt
 examples = record {
   run-of-01 = refl;
-  runs = record { empty = refl; refusals = refl; big = refl; little = refl };
+  runs = record {
+    empty = refl;
+    refusals = refl;
+    nodes-0 = refl;
+    big = refl;
+    little = refl;
+  };
   heads = record {
     nothing-at-all = refl;
     no-parties = refl;
@@ -32,6 +38,7 @@ examples = record {
     leading-zero = refl;
     space = refl;
     capitals = refl;
+    zero-in-nodes = refl;
     few-nodes = refl;
     many-nodes = refl;
     no-nodes = refl;
@@ -41,6 +48,8 @@ examples = record {
   lines = record {
     party-over-99 = refl;
     party-with-zero = refl;
+    called-over-99 = refl;
+    return-in-body = refl;
     seven-digits = refl;
     nine-digits = refl;
     no-digit = refl;
@@ -48,5 +57,14 @@ examples = record {
     two-spaces = refl;
     blank-line = refl;
   };
-  ends = record { no-end = refl; no-line-end = refl; too-many = refl; far-too-many = refl; text-behind = refl; blank-behind = refl };
+  ends = record {
+    no-end = refl;
+    no-line-end = refl;
+    too-many = refl;
+    too-few = refl;
+    zero-in-end = refl;
+    far-too-many = refl;
+    text-behind = refl;
+    blank-behind = refl;
+  };
 }

@@ -23,11 +23,11 @@ use Rattle.script.specs.declared.Line.{Line}
 use Rattle.script.specs.Lines.{lineAt, endsBody, nextOf}
 use Rattle.script.specs.Body.{bodyFrom}
 use Rattle.script.proofs.Laws.{body-on}
-use Rattle.turns.specs.Turns.{Turns, plainTurn, partyIn, lineTurn}
-use Rattle.replay.specs.Output.{keysLeft, plain, lineSays, answersFrom, lastOf, closing, played}
+use Rattle.turns.specs.Turns.{TakesEvent, plainTurn, partyIn, lineTurn}
+use Rattle.replay.specs.Output.{keysLeft, plain, lineSays, saysFrom, lastOf, closing, played}
 
 -- what is printed for a line, by the party, its record and the answer as the code has them
-pub says-so : (turn : Turns) (order : ℕ) (m : Machine) (number : ℕ) (line : Line) {party : ℕ} {before : Party} {answer : Answer Said} →
+pub says-so : (turn : TakesEvent) (order : ℕ) (m : Machine) (number : ℕ) (line : Line) {party : ℕ} {before : Party} {answer : Answer Said} →
     party ≡ partyIn line → before ≡ partyOf m party → answer ≡ lineTurn turn order m line .answer →
     saidBy number party (before .place) answer ≡ lineSays turn order m number line
 unfolding lineSays
@@ -42,20 +42,20 @@ playedFrom text order m seen at left = played plain order m seen (bodyFrom text 
 
 module _ (text : List ℕ) (order : ℕ) (m : Machine) (seen at left : ℕ) where
   pub played-end : bodyFrom text at left ≡ [] → closing plain m ≡ playedFrom text order m seen at left
-  unfolding answersFrom lastOf
+  unfolding saysFrom lastOf
   played-end done = ap (played plain order m seen) (sym done)
 
   pub played-on : (line : Line) {after : Machine} {next : ℕ} → 0 < left → line ≡ lineAt text at → endsBody line ≡ false →
       after ≡ lineTurn plainTurn order m line .memory → next ≡ nextOf line →
       lineSays plainTurn order m (seen + 4) line ++ playedFrom text order after (seen + 1) next
       (left - 1) ≡ playedFrom text order m seen at left
-  unfolding answersFrom lastOf
+  unfolding saysFrom lastOf
   played-on line some here goes turns leads =
       let l = lineAt text at in
       let m′ = lineTurn plainTurn order m l .memory in
       let rest = bodyFrom text (nextOf l) (left - 1) in
       rw (turns, leads, here)
-      (sym (append-assoc (lineSays plainTurn order m (seen + 4) l) (answersFrom plainTurn order m′ (seen + 1) rest) (closing plain
+      (sym (append-assoc (lineSays plainTurn order m (seen + 4) l) (saysFrom plainTurn order m′ (seen + 1) rest) (closing plain
       (lastOf plainTurn order m′ rest)))
       ∙ ap (played plain order m seen) (sym (body-on text at left some (rw here at goes))))
 

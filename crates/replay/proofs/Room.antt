@@ -13,14 +13,14 @@ use Rattle.list.specs.Run.{turnOf, fresh}
 use Rattle.text.specs.Reading.{bytes}
 use Rattle.page.proofs.Room.{room}
 use Rattle.report.specs.Lines.{badLine}
-use Rattle.report.proofs.Room.{said-short, numbered-short, keys-short, tallies-short}
+use Rattle.report.proofs.Room.{said-short, number-short, keys-short, tallies-short}
 use Rattle.script.specs.declared.Line.{Line}
 use Rattle.script.specs.Lines.{lineAt, endsBody, nextOf}
 use Rattle.script.specs.Head.{headOf}
 use Rattle.script.specs.Body.{mostLines, bodyFrom, bodyOf, firstBad}
 use Rattle.turns.specs.Turns.{partyIn, lineTurn}
 use Rattle.world.proofs.Cases.{on-cond}
-use Rattle.replay.specs.Output.{checked, lineSays, answersFrom, lastOf, closing, judged, outputBy, outputOf}
+use Rattle.replay.specs.Output.{checked, lineSays, saysFrom, lastOf, closing, judged, outputBy, outputOf}
 use Rattle.replay.specs.Claims.{OutputFits, WholeOutput}
 use Rattle.replay.proofs.Sound.{Sound, few-keys}
 use Rattle.replay.proofs.Judged.{good-run}
@@ -28,8 +28,8 @@ use Rattle.replay.proofs.Judged.{good-run}
 -- ---- all lines
 
 answers-short : (order : ℕ) (m : Machine) (seen : ℕ) (lines : List Line) → length
-    (answersFrom turnOf order m seen lines) ≤ 62 * length lines
-unfolding answersFrom lineSays
+    (saysFrom turnOf order m seen lines) ≤ 62 * length lines
+unfolding saysFrom lineSays
 answers-short order m seen [] = omega arith
 answers-short order m seen (line ∷ rest) =
     simp length-append
@@ -56,7 +56,7 @@ closing-short m s = simp length-append (omega (arith, keys-short (liveKeys m), f
 -- ---- the output
 
 bad-short : (line : ℕ) → length (badLine line) ≤ 786432
-bad-short line = omega (arith, numbered-short (bytes "bad=") line)
+bad-short line = omega (arith, number-short (bytes "bad=") line)
 
 module _ (text : List ℕ) (short : length text ≤ 65536) where
   judged-short : (bad : ℕ) → firstBad text (headOf text) ≡ bad → length (judged checked text (headOf text) bad) ≤ 786432

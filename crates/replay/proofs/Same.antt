@@ -29,7 +29,7 @@ use Rattle.script.specs.Lines.{lineAt, callLine, stepLine, endLine, endsBody, n
 use Rattle.script.specs.Body.{bodyFrom}
 use Rattle.turns.specs.Turns.{plainTurn, fieldIn, loaded, lineTurn}
 use Rattle.world.proofs.Cases.{on-cond}
-use Rattle.replay.specs.Output.{checked, listed, keysLeft, plain, lineSays, answersFrom, lastOf, closing, played}
+use Rattle.replay.specs.Output.{checked, listed, keysLeft, plain, lineSays, saysFrom, lastOf, closing, played}
 use Rattle.replay.proofs.Sound.{Sound, sound-turn, plain-turn, sound-listing}
 
 -- ---- lines whose fields are bytes
@@ -108,12 +108,12 @@ turn-same order m Bad s fits = record { path = refl; sound = s }
 -- ---- all lines
 
 pub record SameRun (order : ℕ) (m : Machine) (seen : ℕ) (lines : List Line) : Type 0 where
-  pub answers : answersFrom plainTurn order m seen lines ≡ answersFrom turnOf order m seen lines
+  pub answers : saysFrom plainTurn order m seen lines ≡ saysFrom turnOf order m seen lines
   pub last : lastOf plainTurn order m lines ≡ lastOf turnOf order m lines
   pub sound : Sound (lastOf turnOf order m lines)
 
 pub run-same : (order : ℕ) (m : Machine) (seen : ℕ) (lines : List Line) → Sound m → AllFit lines → SameRun order m seen lines
-unfolding answersFrom lastOf lineSays AllFit
+unfolding saysFrom lastOf lineSays AllFit
 run-same order m seen [] s fits = record { answers = refl; last = refl; sound = s }
 run-same order m seen (line ∷ rest) s fits =
     let one = turn-same order m line s (fits .0) in
@@ -140,4 +140,4 @@ pub played-same : (order : ℕ) (m : Machine) (seen : ℕ) (lines : List Line) �
     played plain order m seen lines ≡ played checked order m seen lines
 played-same order m seen lines run =
     rw (run .answers, run .last)
-    (ap (λ (l : List ℕ). answersFrom turnOf order m seen lines ++ l) (closing-same (lastOf turnOf order m lines) (run .sound)))
+    (ap (λ (l : List ℕ). saysFrom turnOf order m seen lines ++ l) (closing-same (lastOf turnOf order m lines) (run .sound)))

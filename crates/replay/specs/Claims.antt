@@ -16,7 +16,7 @@ use Rattle.replay.specs.Output.{plain, lastOf, outputBy, outputOf}
 abbrev pub SameOutput : Type 0
 SameOutput = (text : List ℕ) → outputBy plain text ≡ outputOf text
 
--- the list at the end of a text
+-- the list at the end of a good text
 abbrev pub endOf : List ℕ → Machine
 endOf text = lastOf turnOf (headOf text .order) (fresh (headOf text .nodes) (headOf text .parties)) (bodyOf text (headOf text))
 

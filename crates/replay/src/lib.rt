@@ -99,7 +99,7 @@ fn put_closing(
     put_tallies(out, on, state)
 }
 
-// Runs the calls and steps of a text whose head this is, and prints what comes of them.
+// Runs the calls and steps of a text whose head this is, prints what comes of them, then the closing lines.
 fn run_body(
     text: &[u8],
     head: Head,
@@ -172,7 +172,7 @@ fn run_new(text: &[u8], head: Head, out: &mut [u8]) -> usize
     )
 }
 
-// Leaves the output of a schedule's text in the buffer, as far as it has room, and answers where the output ends there.
+// Leaves the output of a schedule's text at the start of the buffer, as far as it has room, and answers the place behind what was put.
 pub fn replay(text: &[u8], out: &mut [u8]) -> usize
     ensures { λ r. ⌜ Wrote (page (now (out .entry)) 0) (outputOf (now (text .entry))) (page (now (out .exit)) r) ⌝ }
 {

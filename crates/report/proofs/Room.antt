@@ -14,7 +14,7 @@ use Rattle.moves.specs.declared.Said.the-variants.{Nothing, Yes, No}
 use Rattle.text.specs.Reading.{bytes}
 use Rattle.page.proofs.Room.{digits-are-few}
 use Rattle.report.specs.declared.Asked.{Asked}
-use Rattle.report.specs.Lines.{askedAt, callName, askedText, answerLine, refusedLine, heard, saidBy, numbered, keyLines, tallyLines}
+use Rattle.report.specs.Lines.{askedAt, callName, askedText, answerLine, refusedLine, heard, saidBy, numberLine, keyLines, tallyLines}
 
 -- ---- answers and refusals
 
@@ -49,17 +49,17 @@ said-short line party place (refused number) = refused-short line number
 
 -- ---- the closing lines
 
-pub numbered-short : (word : List ℕ) (n : ℕ) → length (numbered word n) ≤ length word + 21
-unfolding numbered
-numbered-short word n = simp length-append (omega (arith, digits-are-few 20 n))
+pub number-short : (word : List ℕ) (n : ℕ) → length (numberLine word n) ≤ length word + 21
+unfolding numberLine
+number-short word n = simp length-append (omega (arith, digits-are-few 20 n))
 
 pub keys-short : (keys : List ℕ) → length (keyLines keys) ≤ 25 * length keys
 unfolding keyLines
 keys-short [] = omega arith
-keys-short (key ∷ rest) = simp length-append (omega (arith, numbered-short (bytes "key=") key, keys-short rest))
+keys-short (key ∷ rest) = simp length-append (omega (arith, number-short (bytes "key=") key, keys-short rest))
 
 pub tallies-short : (st : State) → length (tallyLines st) ≤ 105
 unfolding tallyLines
 tallies-short st =
     simp length-append
-    (omega (arith, numbered-short (bytes "moves=") (st .moves), numbered-short (bytes "won=") (st .won), numbered-short (bytes "lost=") (st .lost), numbered-short (bytes "taken=") (st .taken)))
+    (omega (arith, number-short (bytes "moves=") (st .moves), number-short (bytes "won=") (st .won), number-short (bytes "lost=") (st .lost), number-short (bytes "taken=") (st .taken)))

@@ -18,7 +18,7 @@ use Rattle.report.specs.declared.Asked.{Asked}
 abbrev pub asked : Call → (key : ℕ) → Asked
 asked call key = record { call = call; key = key }
 
--- what a party was asked; an idle one nothing (and nothing is answered there)
+-- what a party was asked; an idle one was asked nothing, contains 0 stands in for it, and no move of an idle party answers
 abbrev pub askedAt : Place → Asked
 askedAt Idle = asked Contains 0
 askedAt (Walk call key) = asked call key
@@ -53,7 +53,7 @@ heard party place Nothing = []
 heard party place Yes = answerLine party (askedAt place) (bytes "yes")
 heard party place No = answerLine party (askedAt place) (bytes "no")
 
--- what the line of this number gives rise to; the party stood at the place before
+-- what is printed for the line of this number, which called or moved the party; the place is where the party stood before
 unfoldable pub saidBy : (line party : ℕ) → Place → Answer Said → List ℕ
 saidBy line party place (accepted said) = heard party place said
 saidBy line party place (refused number) = refusedLine line number
@@ -61,11 +61,11 @@ saidBy line party place (refused number) = refusedLine line number
 -- ---- the closing lines
 
 -- a word, a number and LF
-unfoldable pub numbered : (word : List ℕ) → ℕ → List ℕ
-numbered word n = word ++ decimal n ++ bytes "\n"
+unfoldable pub numberLine : (word : List ℕ) → ℕ → List ℕ
+numberLine word n = word ++ decimal n ++ bytes "\n"
 
 abbrev pub keyLine : ℕ → List ℕ
-keyLine key = numbered (bytes "key=") key
+keyLine key = numberLine (bytes "key=") key
 
 unfoldable pub keyLines : List ℕ → List ℕ
 keyLines [] = []
@@ -73,10 +73,10 @@ keyLines (key ∷ rest) = keyLine key ++ keyLines rest
 
 unfoldable pub tallyLines : State → List ℕ
 tallyLines st =
-    numbered (bytes "moves=") (st .moves) ++ numbered (bytes "won=") (st .won) ++ numbered (bytes "lost=") (st .lost)
-    ++ numbered (bytes "taken=") (st .taken)
+    numberLine (bytes "moves=") (st .moves) ++ numberLine (bytes "won=") (st .won) ++ numberLine (bytes "lost=") (st .lost)
+    ++ numberLine (bytes "taken=") (st .taken)
 
 -- ---- a text that breaks the rules
 
 abbrev pub badLine : ℕ → List ℕ
-badLine line = numbered (bytes "bad=") line
+badLine line = numberLine (bytes "bad=") line

@@ -9,7 +9,7 @@ use party::State;
 ghost use mathlib.Core.Path.{_≡_};
 ghost use Rattle.page.specs.Page.{page, Wrote};
 ghost use Rattle.list.specs.Answers.{replyIs};
-ghost use Rattle.report.specs.Lines.{askedAt, callName, askedText, answerLine, refusedLine, heard, saidBy, numbered, keyLine, keyLines, tallyLines, badLine};
+ghost use Rattle.report.specs.Lines.{askedAt, callName, askedText, answerLine, refusedLine, heard, saidBy, numberLine, keyLine, keyLines, tallyLines, badLine};
 
 // What a party was asked: the call and the key.
 struct Asked {
@@ -17,7 +17,7 @@ struct Asked {
     key: u32,
 }
 
-// The call and the key that a place carries; an idle party has neither.
+// The call and the key that a place carries. An idle party has neither, and is never answered.
 fn asked_at(place: Place) -> Asked
     ensures { λ r. ⌜ r ≡ askedAt place ⌝ }
 {
@@ -112,14 +112,14 @@ pub fn put_reply(
 
 // A word, a number and LF.
 fn put_numbered(out: &mut [u8], to: usize, word: &[u8], n: u64) -> usize
-    ensures { λ r. ⌜ Wrote (page (now (out .entry)) to) (numbered (now (word .entry)) n) (page (now (out .exit)) r) ⌝ }
+    ensures { λ r. ⌜ Wrote (page (now (out .entry)) to) (numberLine (now (word .entry)) n) (page (now (out .exit)) r) ⌝ }
 {
     let a = put(out, to, word);
     let b = put_number(out, a, n);
     put(out, b, b"\n")
 }
 
-// bad= and a line's number
+// bad= and a line's number, at the start of the buffer
 pub fn put_bad(out: &mut [u8], line: usize) -> usize
     ensures { λ r. ⌜ Wrote (page (now (out .entry)) 0) (badLine line) (page (now (out .exit)) r) ⌝ }
 {

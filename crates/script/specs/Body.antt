@@ -9,7 +9,7 @@ use Rattle.script.specs.declared.Head.{Head}
 use Rattle.script.specs.declared.Line.{Line}
 use Rattle.script.specs.declared.Line.the-variants.{Call, Step, End, Bad}
 
--- no line is shorter than `end=0` with its LF, so a text has no more lines than this (`FuelNeverDecides` in Claims)
+-- no good line is shorter than `end=0` with its LF, so no more good lines than this stand in a text (`FuelNeverDecides` in Claims)
 unfoldable pub mostLines : List ℕ → ℕ
 mostLines text = length text / 6
 
@@ -21,16 +21,17 @@ bodyFrom text at (suc left) = let line = lineAt text at in cond (endsBody line) 
 -- ---- the first bad line, or 0
 
 -- behind so many calls and steps stands line 4 + seen; `end=` gives the number of these lines, and nothing follows it
-unfoldable pub endBad : (seen count next length : ℕ) → ℕ
+unfoldable pub endBad : (seen count next len : ℕ) → ℕ
 endBad seen count next len = cond (eqb count seen) (cond (eqb next len) 0 (seen + 5)) (seen + 4)
 
-unfoldable pub lastBad : (seen : ℕ) → Line → (length : ℕ) → ℕ
+-- of the line that ended the body: an `end=` is tested, any other is bad itself (a call or a step never ends it)
+unfoldable pub lastBad : (seen : ℕ) → Line → (len : ℕ) → ℕ
 lastBad seen (Call c) len = seen + 4
 lastBad seen (Step party next) len = seen + 4
 lastBad seen (End count next) len = endBad seen count next len
 lastBad seen Bad len = seen + 4
 
--- from a place on; a line that is missing is bad
+-- from a place on; a line that is missing is bad (behind a good head the turns do not run out before the text does)
 unfoldable pub badFrom : List ℕ → (seen at left : ℕ) → ℕ
 badFrom text seen at zero = seen + 4
 badFrom text seen at (suc left) =

@@ -37,7 +37,7 @@ orderLine text at =
 unfoldable pub firstLost : (parties nodes order : ℕ) → ℕ
 firstLost parties nodes order = cond (eqb parties lost) 1 (cond (eqb nodes lost) 2 (cond (eqb order lost) 3 0))
 
--- each line starts where the one before it ends
+-- each line starts where the one before it ends; in a head with a bad line the other values mean nothing
 unfoldable pub headOf : List ℕ → Head
 headOf text =
     let p = partiesLine text in

@@ -19,7 +19,7 @@ lineEnd text at = word text at (bytes "\n")
 abbrev pub verb : (code next : ℕ) → Verb
 verb code next = record { code = code; next = next }
 
--- the call's name as its code
+-- the call's name, with a space on both sides, as its code; any other name ends at `lost`, as code 2
 unfoldable pub verbAt : List ℕ → ℕ → Verb
 verbAt text at =
     let add = word text at (bytes " add ") in
@@ -68,14 +68,14 @@ lineAt text at =
     (Step (s .value) (s .next)))
     (Call c)
 
--- a call or a step is followed by another line; anything else is the last
+-- the body goes on behind a call or a step; any other line ends it
 abbrev pub endsBody : Line → Bool
 endsBody (Call c) = false
 endsBody (Step party next) = false
 endsBody (End count next) = true
 endsBody Bad = true
 
--- the place of the next line
+-- the place of the next line; behind bytes that are no line, `lost`
 abbrev pub nextOf : Line → ℕ
 nextOf (Call c) = c .next
 nextOf (Step party next) = next

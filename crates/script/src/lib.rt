@@ -29,7 +29,7 @@ pub enum Line {
     Call(CallLine),
     // The party.
     Step(u32, usize),
-    // The number of lines that it gives.
+    // The number that it gives.
     End(u32, usize),
     // Any other bytes, or none.
     Bad,
@@ -137,7 +137,7 @@ pub fn ends_body(line: Line) -> bool
     }
 }
 
-// The place of the line behind a call or a step.
+// The place behind a line; behind bytes that are no line, LOST.
 pub fn next_of(line: Line) -> usize
     ensures { λ r. ⌜ r ≡ nextOf line ⌝ }
 {
@@ -161,7 +161,7 @@ fn parties_line(text: &[u8]) -> Number
     }
 }
 
-// 0 stands for the usual table.
+// 0 stands for 64 rows.
 fn rows_of(v: u32) -> u32
     ensures { λ r. ⌜ r ≡ rowsOf v ⌝ }
 {
@@ -260,7 +260,7 @@ fn last_bad(seen: usize, line: Line, len: usize) -> usize
     }
 }
 
-// How many lines a text can have behind its head at most.
+// How many good lines a text can have at most.
 pub fn most_lines(text: &[u8]) -> usize
     ensures { λ r. ⌜ r ≡ mostLines (now (text .entry)) ⌝ }
 {

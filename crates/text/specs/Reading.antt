@@ -23,7 +23,7 @@ lost = 18446744073709551615
 abbrev pub byteAt : List ℕ → ℕ → ℕ
 byteAt text at = getD text at 0
 
--- the place behind a byte
+-- the place behind a byte; `lost` where no byte stands
 unfoldable pub placeAfter : List ℕ → ℕ → ℕ
 placeAfter text at = cond (ltb at (length text)) (at + 1) lost
 
@@ -42,6 +42,7 @@ only holds at = cond holds at lost
 unfoldable pub digitOf : ℕ → ℕ
 digitOf byte = cond (ltb byte 48) 10 (cond (ltb byte 58) (byte - 48) 10)
 
+-- a number that was read, and the place behind it
 abbrev pub numeral : (value next : ℕ) → Number
 numeral value next = record { value = value; next = next }
 
@@ -57,7 +58,8 @@ nextDigit text n =
     (cond (ltb (n .value) 10000)
     (cond (ltb d 10) (numeral (n .value * 10 + d) (placeAfter text (n .next))) n) n)
 
--- No number of a schedule has more than five digits: a sixth one then stands where its line has to end.
+-- In a text of at most 65,536 bytes no good number has more than four digits. Of a longer one five are read, and the sixth stands where its line
+-- has to end.
 abbrev pub numberAt : List ℕ → ℕ → Number
 numberAt text at = nextDigit text (nextDigit text (nextDigit text (nextDigit text (firstDigit text at))))
 

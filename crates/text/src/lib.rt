@@ -59,7 +59,7 @@ pub fn only(holds: bool, at: usize) -> usize
     if holds { at } else { LOST }
 }
 
-// The place behind a word that stands here.
+// The place behind a word that stands here, else LOST.
 pub fn word(text: &[u8], at: usize, wanted: &[u8]) -> usize
     ensures { λ r. ⌜ r ≡ Reading·word (now (text .entry)) at (now (wanted .entry)) ⌝ }
 {
@@ -88,7 +88,7 @@ fn digit(byte: u8) -> u8
     }
 }
 
-// The number of a first digit.
+// The number that one digit makes; without a digit, 0 at LOST.
 fn first_digit(text: &[u8], at: usize) -> Number
     ensures { λ r. ⌜ r ≡ firstDigit (now (text .entry)) at ⌝ }
 {
@@ -182,7 +182,7 @@ fn read_pair(text: &[u8], at: usize) -> Pair
     }
 }
 
-// The four bytes of eight hex digits.
+// The four bytes of eight hex digits; LOST behind any other text.
 pub fn read_field(text: &[u8], at: usize) -> Field
     ensures { λ r. ⌜ r ≡ fieldAt (now (text .entry)) at ⌝ }
 {

@@ -1,4 +1,4 @@
--- Turns case by case: what the tests found, and what is then answered and left.
+-- TakesEvent case by case: what the tests found, and what is then answered and left.
 -- Assumes nothing.
 use mathlib.Core.Path.{_≡_, ap, sym, _∙_}
 use Prim.Native.Nat.{ℕ}

@@ -15,11 +15,11 @@ use Rattle.script.specs.declared.Line.the-variants.{Call, Step, End, Bad}
 -- ---- one event
 
 -- how an engine takes an event: `turnOf` of `list`, which tests everything, or `plainTurn`
-abbrev pub Turns : Type 0
-Turns = Machine → Event → Left Machine Said
+abbrev pub TakesEvent : Type 0
+TakesEvent = Machine → Event → Left Machine Said
 
--- an event without the tests for 1 and 3, and so at a cost that does not depend on the number of rows
-unfoldable pub plainTurn : Turns
+-- an event without the tests for 1 and 3
+unfoldable pub plainTurn : TakesEvent
 plainTurn m (calls party code key) =
     leaving (callAsks (m .state) (rowsIn (m .table)) party code) m (left (bareCallOf m party (callNamed code) key) going)
 plainTurn m (moves party) = leaving (moveAsks (m .state) party) m (accepting (bareMoveOf m party))
@@ -30,6 +30,7 @@ plainTurn m (moves party) = leaving (moveAsks (m .state) party) m (accepting (ba
 abbrev pub fieldIn : CallLine → List ℕ
 fieldIn c = c .b0 ∷ c .b1 ∷ c .b2 ∷ c .b3 ∷ []
 
+-- the party that a line names; where it names none, 0
 abbrev pub partyIn : Line → ℕ
 partyIn (Call c) = c .party
 partyIn (Step party next) = party
@@ -37,12 +38,12 @@ partyIn (End count next) = 0
 partyIn Bad = 0
 
 -- the load of the key comes before the call; what refuses it refuses the line
-unfoldable pub loaded : Turns → Machine → CallLine → Answer ℕ → Left Machine Said
+unfoldable pub loaded : TakesEvent → Machine → CallLine → Answer ℕ → Left Machine Said
 loaded turn m c (accepted key) = turn m (calls (c .party) (c .code) key)
 loaded turn m c (refused number) = left m (refused number)
 
--- a line of a schedule in which the order code names the byte order of the fields
-unfoldable pub lineTurn : Turns → (order : ℕ) → Machine → Line → Left Machine Said
+-- the turn of a line; the order is the code of the byte order that the head names
+unfoldable pub lineTurn : TakesEvent → (order : ℕ) → Machine → Line → Left Machine Said
 lineTurn turn order m (Call c) = loaded turn m c (loadOf (fieldIn c) 0 order)
 lineTurn turn order m (Step party next) = turn m (moves party)
 lineTurn turn order m (End count next) = left m going

@@ -1,13 +1,13 @@
 -- A word, a number and LF.
 -- Assumes nothing.
 use Rattle.page.proofs.Laws.{on}
-use Rattle.report.specs.Lines.{numbered}
+use Rattle.report.specs.Lines.{numberLine}
 use borrow.Author.Needs.{needs}
 use Rattle.report.proofs.put_numbered.Statement.{statement}
 use Rattle.report.proofs.put_numbered.Tie as tie
 
 returns : tie.Need-returns
-unfolding numbered
+unfolding numberLine
 returns c =
     let c2 = c .before .before in
     let c7 = c2 .before .before .before .before .before in
