@@ -18,11 +18,10 @@ unfolding nextDigit
 returns-2 c =
     let c7 = c .before .before .before .before .before .before .before in
     let d = c .before .before in
-    let f = d .before .before in
     let k = simp (d .digit .ensures, d .before .byte-at .ensures) at (lt-ltb _ _ (c .before .if3 .taken)) in
     simp (
       k,
-      lt-ltb _ _ (f .if2 .taken),
+      lt-ltb (c7 .args .n .value) 10000 (omega arith),
       ne-eqb (c7 .args .n .value) 0 (λ z. omega arith),
       d .digit .ensures,
       d .before .byte-at .ensures,
@@ -34,15 +33,14 @@ unfolding nextDigit
 returns-3 c =
     let c6 = c .before .before .before .before .before .before in
     let d = c .before in
-    let f = d .before .before in
     let k = simp (d .digit .ensures, d .before .byte-at .ensures) at (le-ltb _ _ (c .if3 .left)) in
-    simp (k, lt-ltb _ _ (f .if2 .taken), ne-eqb (c6 .args .n .value) 0 (λ z. omega arith))
+    simp (k, lt-ltb (c6 .args .n .value) 10000 (omega arith), ne-eqb (c6 .args .n .value) 0 (λ z. omega arith))
 
 returns-4 : tie.Need-returns-4
 unfolding nextDigit
 returns-4 c =
     let c3 = c .before .before .before in
-    simp (le-ltb _ _ (c .if2 .left), ne-eqb (c3 .args .n .value) 0 (λ z. omega arith))
+    simp (le-ltb (c3 .args .n .value) 10000 (omega arith), ne-eqb (c3 .args .n .value) 0 (λ z. omega arith))
 
 pub next-digit-spec : {M : Type 1} → statement M
 next-digit-spec =
