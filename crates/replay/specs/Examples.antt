@@ -1,4 +1,4 @@
--- Whole texts and their whole outputs, computed by the checker: the run of document 01, refusals, and a bad line of every kind.
+-- Whole texts and their whole outputs, computed by the checker: the run of document 01, refusals, and bad texts of many kinds.
 use mathlib.Core.Path.{_≡_}
 use Prim.Native.String.{String}
 use Rattle.text.specs.Reading.{bytes}
