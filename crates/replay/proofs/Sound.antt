@@ -1,7 +1,7 @@
 -- Every list that a schedule has grown: on it the bare turn is the checked one, and a listing lists the live keys.
 -- Assumes nothing.
 use mathlib.Core.Path.{_≡_, refl, ap, sym, _∙_}
-use mathlib.Core.Bool.{Bool, true, false, cond}
+use mathlib.Core.Bool.{Bool, true, false}
 use mathlib.Core.List.{List, [], _∷_, _++_}
 use Prim.Native.Nat.{ℕ, zero, suc, _+_, _≤_}
 use native.Mathlib.Omega.{arith}
@@ -22,6 +22,7 @@ use Rattle.grown.specs.History.{History, keyFits, keysFit, heeded, start, Grows
 use Rattle.grown.proofs.Heeded.{all-heeded}
 use Rattle.grown.proofs.Demands.{kept}
 use Rattle.grown.proofs.Demands as demands
+use Rattle.world.proofs.Cases.{on-cond}
 use Rattle.turns.specs.Turns.{plainTurn}
 use Rattle.turns.proofs.Checked.{plain-is-checked}
 
@@ -86,15 +87,12 @@ with-key-short : (live : Bool) (key : ℕ) (keys : List ℕ) (n : ℕ) → lengt
 with-key-short true key keys n h = omega arith
 with-key-short false key keys n h = omega arith
 
-cond-short : (stops : Bool) (keys : List ℕ) (n : ℕ) → length keys ≤ n → length (cond stops [] keys) ≤ n
-cond-short true keys n h = omega arith
-cond-short false keys n h = h
-
 live-short : (t : Table) (fuel row : ℕ) → length (liveFrom t fuel row) ≤ fuel
 unfolding liveFrom
 live-short t zero row = omega arith
-live-short t (suc fuel) row = cond-short (eqb row 2) _ (suc fuel) (with-key-short (isLive t row) _ _ fuel (live-short t fuel
-    (behind t row)))
+live-short t (suc fuel) row =
+    on-cond (λ (keys : List ℕ). length keys ≤ suc fuel) (eqb row 2) [] _ (λ e. omega arith)
+    (λ e. with-key-short (isLive t row) _ _ fuel (live-short t fuel (behind t row)))
 
 module _ (m : Machine) (s : Sound m) where
   -- T rows at most are on the chain, and they are in the columns

@@ -1,4 +1,4 @@
--- A text passes the reading of a schedule exactly if it is the text of a schedule, and then it is read as that schedule.
+-- A text of at most 65,536 bytes passes the reading of a schedule exactly if it is the text of a schedule, and then it is read as that schedule.
 use Prim.{Unit}
 use mathlib.Core.Path.{_≡_}
 use mathlib.Core.List.{List, [], _∷_}
@@ -16,7 +16,7 @@ pub record ScheduleOf (text : List ℕ) : Type 0 where
   pub good : GoodSchedule schedule
   pub path : text ≡ textOf schedule
 
--- a text without a bad line is the text of a schedule
+-- a text of at most 65,536 bytes without a bad line is the text of a schedule
 abbrev pub OnlyWritten : Type 0
 OnlyWritten = (text : List ℕ) → length text ≤ 65536 → firstBad text (headOf text) ≡ 0 → ScheduleOf text
 
@@ -45,6 +45,6 @@ pub record ReadAs (text : List ℕ) (s : Schedule) : Type 0 where
   pub order : headOf text .order ≡ s .order
   pub body : AllSay (bodyOf text (headOf text)) (s .items)
 
--- and the text of a schedule is read as the schedule
+-- and the text of a schedule that keeps the rules, if it is no longer than that, is read as the schedule
 abbrev pub Written : Type 0
 Written = (s : Schedule) → GoodSchedule s → length (textOf s) ≤ 65536 → ReadAs (textOf s) s
