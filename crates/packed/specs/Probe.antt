@@ -1,0 +1,91 @@
+-- The probe: one set-up, call, move or listing by the checked entry points on the state that came, and all that it leaves.
+use Prim.{Unit}
+use mathlib.Core.List.{List, [], _∷_, _++_}
+use mathlib.Core.Bool.{cond}
+use Prim.Native.Nat.{ℕ}
+use lib.ListN.{replicate}
+use Rattle.refusal.specs.Answer.{Answer, accepted, refused, Left}
+use Rattle.moves.specs.declared.Said.{Said}
+use Rattle.moves.specs.declared.Said.the-variants.{Nothing, Yes, No}
+use Rattle.bare.specs.Bare.{Machine}
+use Rattle.list.specs.Engine.{setUpOf, callOf, moveOf, listOf}
+use Rattle.packed.specs.Bytes.{low, lows}
+use Rattle.packed.specs.Layout.{whatIn, partyIn, codeIn, keyIn, placesIn, tableIn, machineIn, fits, machineBytes}
+
+-- what the probe shows: a refusal's number or 0, the answer, how many keys were listed, the places, and the state
+pub record Seen : Type 0 where
+  pub number : ℕ
+  pub answer : ℕ
+  pub listed : ℕ
+  pub places : List ℕ
+  pub after : Machine
+
+-- the places before a listing, each 0xEEEEEEEE
+abbrev pub unwritten : ℕ → List ℕ
+unwritten places = replicate places 4008636142
+
+-- 0 none, 1 yes, 2 no
+abbrev pub saidNumber : Said → ℕ
+saidNumber Nothing = 0
+saidNumber Yes = 1
+saidNumber No = 2
+
+-- the number of a refusal; of an accepted answer, 0
+abbrev pub refusalIn : {A : Type 0} → Answer A → ℕ
+refusalIn (accepted value) = 0
+refusalIn (refused number) = number
+
+-- what is said by a move; a refusal says nothing
+abbrev pub saidIn : Answer Said → ℕ
+saidIn (accepted said) = saidNumber said
+saidIn (refused number) = 0
+
+-- how many keys a listing has listed; a refused one, none
+abbrev pub listedIn : Answer ℕ → ℕ
+listedIn (accepted count) = count
+listedIn (refused number) = 0
+
+-- of a set-up the state that it hands back, and if it is refused the one that came
+abbrev pub handedBack : (came : Machine) → Left Machine (Unit {0}) → Machine
+handedBack came (record { memory = new; answer = accepted done }) = new
+handedBack came (record { memory = new; answer = refused number }) = came
+
+-- ---- the four questions
+
+unfoldable pub setUpSeen : Machine → (parties places : ℕ) → Seen
+setUpSeen m parties places =
+    let done = setUpOf (m .table) parties in
+    record { number = refusalIn (done .answer); answer = 0; listed = 0; places = unwritten places; after = handedBack m done }
+
+unfoldable pub callSeen : Machine → (party code key places : ℕ) → Seen
+callSeen m party code key places =
+    let done = callOf m party code key in
+    record { number = refusalIn (done .answer); answer = 0; listed = 0; places = unwritten places; after = done .memory }
+
+unfoldable pub moveSeen : Machine → (party places : ℕ) → Seen
+moveSeen m party places =
+    let done = moveOf m party in
+    record { number = refusalIn (done .answer); answer = saidIn (done .answer); listed = 0; places = unwritten places; after = done .memory }
+
+unfoldable pub listingSeen : Machine → (places : ℕ) → Seen
+listingSeen m places =
+    let done = listOf m (unwritten places) in
+    record { number = refusalIn (done .answer); answer = 0; listed = listedIn (done .answer); places = done .memory; after = m }
+
+abbrev pub seenBy : (what : ℕ) → Machine → (party code key places : ℕ) → Seen
+seenBy 0 m party code key places = setUpSeen m party places
+seenBy 1 m party code key places = callSeen m party code key places
+seenBy 2 m party code key places = moveSeen m party places
+seenBy more m party code key places = listingSeen m places
+
+unfoldable pub seenOf : List ℕ → Seen
+seenOf bytes = seenBy (whatIn bytes) (machineIn bytes) (partyIn bytes) (codeIn bytes) (keyIn bytes) (placesIn bytes)
+
+-- ---- bytes in, bytes out
+
+unfoldable pub seenBytes : Seen → List ℕ
+seenBytes seen = seen .number ∷ seen .answer ∷ low 2 (seen .listed) ++ lows 4 (seen .places) ++ machineBytes (seen .after)
+
+-- what does not fit the layout gives the one byte 255
+unfoldable pub probeOf : List ℕ → List ℕ
+probeOf bytes = cond (fits bytes) (seenBytes (seenOf bytes)) (255 ∷ [])
