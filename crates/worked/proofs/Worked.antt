@@ -1,0 +1,26 @@
+-- The table of examples, computed by the checker.
+-- Assumes nothing.
+use mathlib.Core.Path.{refl}
+use Rattle.rows.specs.Order.{rank}
+use Rattle.moves.specs.Moves.{prepareOf, onwardOf, landedAddOf, landedRemoveOf, landedContainsOf, walkOf, skipOf, addSwapOf, markOf, rereadOf, cleanOf, backOf, lookOf}
+use Rattle.bare.specs.Bare.{begunOf, bareCallOf, bareMoveOf}
+use Rattle.form.specs.Form.{kindsFit, keysFit, linksFit, recordFits, partiesFit, goodForm}
+use Rattle.chain.specs.Chain.{rises, liveFrom}
+use Rattle.field.specs.Layout.{numberIn}
+use Rattle.field.specs.Field.{fieldTests, loadOf}
+use Rattle.field.specs.Field as field
+use Rattle.list.specs.Engine.{setUpOf, callOf, moveOf, listOf}
+use Rattle.list.specs.Run.{run, replies}
+use Rattle.text.specs.Reading.{word, placeAfter, digitOf, nextDigit, hexOf, pairAt, fieldAt}
+use Rattle.page.specs.Page.{digits}
+use Rattle.report.specs.Lines.{callName, askedText, answerLine, refusedLine, heard, saidBy, numberLine, keyLines, tallyLines}
+use Rattle.script.specs.Lines.{verbAt, callLine, stepLine, endLine, lineAt}
+use Rattle.script.specs.Head.{rowsOf, partiesLine, nodesLine, orderLine, firstLost, headOf}
+use Rattle.script.specs.Body.{mostLines, bodyFrom, endBad, lastBad, badFrom, firstBad}
+use Rattle.turns.specs.Turns.{loaded, lineTurn}
+use Rattle.replay.specs.Output.{lineSays, saysFrom, lastOf, closing, outputBy}
+use Rattle.worked.specs.Table.{Worked}
+
+pub worked : Worked
+unfolding word placeAfter digitOf nextDigit hexOf pairAt fieldAt digits callName askedText answerLine refusedLine heard saidBy numberLine keyLines tallyLines verbAt callLine stepLine endLine lineAt rowsOf partiesLine nodesLine orderLine firstLost headOf mostLines bodyFrom endBad lastBad badFrom firstBad loaded lineTurn lineSays saysFrom lastOf closing outputBy setUpOf callOf moveOf rises liveFrom goodForm kindsFit keysFit linksFit recordFits partiesFit bareCallOf begunOf bareMoveOf walkOf onwardOf landedAddOf landedRemoveOf landedContainsOf prepareOf skipOf addSwapOf markOf rereadOf cleanOf backOf lookOf rank numberIn fieldTests loadOf field.fieldAt run replies listOf
+worked = refl
