@@ -3,11 +3,7 @@
 use mathlib.Core.Path.{refl}
 use Rattle.field.specs.Layout.{numberIn, bytesIn}
 use Rattle.field.specs.Field.{fieldAt, stored, fieldTests, loadOf, storeOf}
-use Rattle.field.specs.Examples.{E1, FirstSlip, NoSlip, FieldEnds, OrderFirst}
-
-pub e1 : E1
-unfolding loadOf fieldTests fieldAt numberIn
-e1 = (refl, refl)
+use Rattle.field.specs.Examples.{FirstSlip, NoSlip, FieldEnds, OrderFirst}
 
 pub first-slip : FirstSlip
 unfolding loadOf storeOf fieldTests fieldAt stored numberIn bytesIn

@@ -1,13 +1,9 @@
--- Examples that the checker computes on the definitions: E1 of document 01, the trade's first slip, and where a field ends.
+-- Examples that the checker computes on the definitions: the trade's first slip, where a field ends, 11 before 10.
 use mathlib.Core.Path.{_≡_}
 use mathlib.Core.List.{List, [], _∷_}
 use Prim.Native.Nat.{ℕ}
 use Rattle.refusal.specs.Answer.{accepted, refused, left, passed}
 use Rattle.field.specs.Field.{loadOf, storeOf}
-
--- E1: one field, the bytes 00 01 00 00, in each of the two orders
-abbrev pub E1 : Type 0
-E1 = (loadOf (0 ∷ 1 ∷ 0 ∷ 0 ∷ []) 0 1 ≡ accepted 256) × (loadOf (0 ∷ 1 ∷ 0 ∷ 0 ∷ []) 0 0 ≡ accepted 65536)
 
 -- twelve zero bytes into which 1, 2 and 256 were stored low first
 abbrev pub threeLowFirst : List ℕ

@@ -7,14 +7,19 @@ use Rattle.moves.specs.declared.Said.the-variants.{No}
 use Rattle.rows.specs.Table.{nextAt}
 use Rattle.list.specs.Engine.{liveKeys, chainRises}
 use Rattle.list.specs.Run.{calls, moves}
-use Rattle.list.specs.Examples.{bare, collision}
+use Rattle.list.specs.Examples.{bare}
 use Rattle.world.specs.Keys.{has}
 use Rattle.grown.specs.History.{History, start, Grows, grown}
 use Rattle.grown.specs.Counts.{Counts, tally, withKeys}
 use Rattle.grown.specs.Deeds.{countsOf}
 use Rattle.grown.specs.Answers.{Asked, called, found, Answered}
 
--- the run of document 01: 2 calls, 10 moves, 2 swaps won, 1 lost; both won swaps are add swaps; 2 keys in, none out
+-- the run of document 01
+abbrev pub collision : History
+collision =
+    calls 0 0 5 ∷ calls 1 0 7 ∷ moves 0 ∷ moves 0 ∷ moves 1 ∷ moves 1 ∷ moves 0 ∷ moves 1 ∷ moves 1 ∷ moves 1 ∷ moves 1 ∷ moves 1 ∷ []
+
+-- 2 calls, 10 moves, 2 swaps won, 1 lost; both won swaps are add swaps; 2 keys in, none out
 pub record RunOf01 : Type 0 where
   pub grows : Grows (bare 16) 2 collision
   pub counts : countsOf (start (bare 16) 2) collision ≡ withKeys 2 0 (tally 2 10 2 1 2 0)

@@ -13,15 +13,6 @@ use Rattle.list.specs.Examples.{Examples}
 pub examples : Examples
 unfolding run replies setUpOf callOf moveOf listOf rises liveFrom goodForm kindsFit keysFit linksFit recordFits partiesFit bareCallOf begunOf bareMoveOf walkOf onwardOf landedAddOf landedRemoveOf landedContainsOf prepareOf skipOf addSwapOf markOf rereadOf cleanOf backOf lookOf rank
 examples = (
-  (refl, refl, refl, refl),
-  (refl, refl, refl),
-  (refl, refl),
-  (refl, refl, refl),
-  refl,
-  refl,
-  (refl, refl),
-  refl,
-  (refl, refl, refl),
   (refl, refl),
   (refl, refl),
   (refl, refl, refl, refl, refl, refl, refl),

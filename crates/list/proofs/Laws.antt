@@ -13,7 +13,7 @@ use Rattle.refusal.specs.declared.Refusal.{Refusal}
 use Rattle.refusal.specs.declared.Verdict.{Verdict}
 use Rattle.refusal.specs.declared.Verdict.the-variants.{Accepted, Refused}
 use Rattle.refusal.specs.Number.{numberOf}
-use Rattle.refusal.specs.Answer.{accepted, refused, Left, left, Tests, passed, refusing, leaving, verdictIs}
+use Rattle.refusal.specs.Answer.{accepted, refused, left, Tests, passed, refusing, verdictIs}
 use Rattle.refusal.proofs.Laws.{past-test, leaves-changed, leaves-found}
 use Rattle.refusal.proofs.Told.{tests-told}
 use Rattle.columns.specs.Column.{zeros}

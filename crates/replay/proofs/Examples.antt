@@ -23,7 +23,6 @@ use Rattle.replay.specs.Examples.{Examples}
 pub examples : Examples
 unfolding word placeAfter digitOf nextDigit hexOf pairAt fieldAt digits callName askedText answerLine refusedLine heard saidBy numberLine keyLines tallyLines verbAt callLine stepLine endLine lineAt rowsOf partiesLine nodesLine orderLine firstLost headOf mostLines bodyFrom endBad lastBad badFrom firstBad loaded lineTurn lineSays saysFrom lastOf closing outputBy setUpOf callOf moveOf rises liveFrom goodForm kindsFit keysFit linksFit recordFits partiesFit bareCallOf begunOf bareMoveOf walkOf onwardOf landedAddOf landedRemoveOf landedContainsOf prepareOf skipOf addSwapOf markOf rereadOf cleanOf backOf lookOf rank numberIn fieldTests loadOf field.fieldAt
 examples = record {
-  run-of-01 = refl;
   runs = record {
     empty = refl;
     refusals = refl;

@@ -1,4 +1,4 @@
--- Whole texts and their whole outputs, computed by the checker: the run of document 01, refusals, and bad texts of many kinds.
+-- Whole texts and their whole outputs, computed by the checker: refusals, both byte orders, and bad texts of many kinds. (The run of document 01: `worked`.)
 use mathlib.Core.Path.{_≡_}
 use Prim.Native.String.{String}
 use Rattle.text.specs.Reading.{bytes}
@@ -8,13 +8,6 @@ use Rattle.replay.specs.Output.{outputOf}
 -- this text has this output
 abbrev pub Gives : (text output : String) → Type 0
 Gives text output = outputOf (bytes text) ≡ bytes output
-
--- E11
-abbrev pub RunOf01 : Type 0
-RunOf01 =
-    Gives
-    "parties=2\nnodes=16\norder=big\ncall=0 add 00000005\ncall=1 add 00000007\nstep=0\nstep=0\nstep=1\nstep=1\nstep=0\nstep=1\nstep=1\nstep=1\nstep=1\nstep=1\nend=12\n"
-    "answer=0 add 5 yes\nanswer=1 add 7 yes\nkey=5\nkey=7\nmoves=10\nwon=2\nlost=1\ntaken=6\n"
 
 -- the smallest text, and one that meets a refusal 4, 5, 7 and 8 in turn
 pub record Runs : Type 0 where
@@ -70,7 +63,6 @@ pub record BadEnds : Type 0 where
   pub blank-behind : Gives "parties=2\nnodes=0\norder=big\nend=0\n\n" "bad=5\n"
 
 pub record Examples : Type 0 where
-  pub run-of-01 : RunOf01
   pub runs : Runs
   pub heads : BadHeads
   pub lines : BadLines

@@ -1,4 +1,6 @@
 -- What an example of document 01 says, and what its input gives by the functions that the contracts cite.
+use Prim.{Unit}
+use mathlib.Core.Path.{_≡_}
 use mathlib.Core.List.{List, [], _∷_, _++_}
 use Prim.Native.Nat.{ℕ}
 use lib.ListN.{length, take, replicate}
@@ -64,6 +66,14 @@ abbrev pub given : Example → Example
 given (field stored lowFirst highFirst) = field stored (loadOf stored 0 1) (loadOf stored 0 0)
 given (list rows parties stages) = list rows parties (stagesOf (fresh rows parties) stages)
 given (schedule text output) = schedule text (outputOf text)
+
+-- the example says what its input gives
+abbrev pub Holds : Example → Type 0
+Holds example = given example ≡ example
+
+abbrev pub AllHold : List Example → Type 0
+AllHold [] = Unit {0}
+AllHold (first ∷ rest) = Holds first × AllHold rest
 
 -- ---- short names for the table
 

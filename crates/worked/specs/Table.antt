@@ -1,6 +1,5 @@
 -- The examples of document 01, "Examples to prove", in one table, and one statement over all of them.
-use mathlib.Core.Path.{_≡_}
-use mathlib.Core.List.{List, [], _∷_, _++_, map}
+use mathlib.Core.List.{List, [], _∷_, _++_}
 use Prim.Native.Nat.{ℕ}
 use Rattle.refusal.specs.Answer.{accepted}
 use Rattle.party.specs.declared.Call.the-variants.{Add, Remove}
@@ -8,7 +7,7 @@ use Rattle.party.specs.declared.Place.{Place}
 use Rattle.party.specs.declared.Place.the-variants.{Idle, Walk, Mark, Reread, Clean, Back}
 use Rattle.list.specs.Run.{calls, moves, going, yes, no}
 use Rattle.text.specs.Reading.{bytes}
-use Rattle.worked.specs.Example.{Stage, Example, field, list, schedule, given, listed, alone, silent, by-move}
+use Rattle.worked.specs.Example.{Stage, Example, field, list, schedule, AllHold, listed, alone, silent, by-move}
 
 -- the codes of the calls
 abbrev add : ℕ
@@ -116,6 +115,5 @@ E11 = schedule
 abbrev pub table : List Example
 table = E1 ∷ E2 ∷ E3 ∷ E4 ∷ E5 ∷ E6 ∷ E7 ∷ E8 ∷ E9 ∷ E10 ∷ E11 ∷ []
 
--- every example says what its input gives
 abbrev pub Worked : Type 0
-Worked = map given table ≡ table
+Worked = AllHold table
