@@ -27,6 +27,18 @@ module _ {w : World} {f : ℕ → ℕ} {P : ℕ → Type 0} {p v : ℕ} (s : Wri
   pub marked-off : {x : ℕ} → x ≢ p → Marked (put w f P) x → Marked w x
   marked-off {x} n o = rw (s .off x n) at o
 
+  -- the ends and their order stay, so the world is good if each of its rows is sound
+  put-good : Good w → ((x : ℕ) → P x → Sound (put w f P) x) → Good (put w f P)
+  put-good g each = record {
+    head = row-put (g .head);
+    start = g .start;
+    one = row-put (g .one);
+    two = row-put (g .two);
+    three = row-put (g .three);
+    order = g .order;
+    each = each;
+  }
+
 module _ {w : World} {f : ℕ → ℕ} {P : ℕ → Type 0} {c own : ℕ} (g : Good w) (m : Mark w f P c own) where
   own-not : own ≢ c
   own-not e = m .fresh (subst (w .Pub) (sym e) (m .write .row .known))
@@ -78,15 +90,7 @@ module _ {w : World} {f : ℕ → ℕ} {P : ℕ → Type 0} {c own : ℕ} (g : G
       }
 
   pub mark-good : Good (put w f P)
-  mark-good = record {
-    head = row-put (m .write) (g .head);
-    start = g .start;
-    one = row-put (m .write) (g .one);
-    two = row-put (m .write) (g .two);
-    three = row-put (m .write) (g .three);
-    order = g .order;
-    each = λ x h. go x (m .new x h);
-  }
+  mark-good = put-good (m .write) g (λ x h. go x (m .new x h))
     where
       go : (x : ℕ) → w .Pub x ⊎ (x ≡ own) → Sound (put w f P) x
       go x (inl h) = by-row x c (λ e. subst (Sound (put w f P)) (sym e) mark-c) (λ n. mark-old x n (g .each x h))
@@ -175,15 +179,7 @@ module _ {w : World} {f : ℕ → ℕ} {P : ℕ → Type 0} {p e v : ℕ} (g : G
   }
 
   pub swing-good : Good (put w f P)
-  swing-good = record {
-    head = row-put (m .write) (g .head);
-    start = g .start;
-    one = row-put (m .write) (g .one);
-    two = row-put (m .write) (g .two);
-    three = row-put (m .write) (g .three);
-    order = g .order;
-    each = λ x h. go x (m .new x h);
-  }
+  swing-good = put-good (m .write) g (λ x h. go x (m .new x h))
     where
       go : (x : ℕ) → w .Pub x ⊎ ((x ≡ v) × Fresh w e v) → Sound (put w f P) x
       go x (inl h) = by-row x p (λ k. subst (Sound (put w f P)) (sym k) swing-p) (λ n. swing-old x n h (g .each x h))
