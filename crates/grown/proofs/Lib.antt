@@ -18,5 +18,6 @@ pub mod Heeded
 pub mod Serves
 pub mod Since
 pub mod Answers
+pub mod Backs
 pub mod Demands
 pub mod Instances

@@ -7,7 +7,7 @@ use Prim.Native.Nat.{ℕ, _+_, _-_, _*_, _<_, _≤_}
 use lib.Dec.{ltb}
 use lib.ListN.{length}
 use Rattle.refusal.specs.Answer.{accepted, left, passed, refusing, leaving}
-use Rattle.rows.specs.Table.{Table, keyAt}
+use Rattle.rows.specs.Table.{Table, keyAt, backAt, isSplice}
 use Rattle.party.specs.declared.Party.{Party}
 use Rattle.bare.specs.Bare.{Machine, partyOf}
 use Rattle.form.specs.Form.{goodForm}
@@ -100,3 +100,9 @@ Rows = (t : Table) (parties : ℕ) (history : History) → Grows t parties histo
     let m = grown t parties history in
     let counts = countsOf (start t parties) history in
     m .state .taken ≡ 4 + counts .adds + counts .marks + rowsHeld m
+
+-- document 01, "Rows and parties": only a splice has a back, and 0 means none
+abbrev pub Backs : Type 0
+Backs = (t : Table) (parties : ℕ) (history : History) → Grows t parties history →
+    let m = grown t parties history in
+    (row : ℕ) → isSplice (m .table) row ≡ false → backAt (m .table) row ≡ 0

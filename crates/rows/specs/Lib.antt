@@ -2,3 +2,4 @@
 pub mod Table
 pub mod Order
 pub mod Writes
+pub mod Claims
