@@ -26,7 +26,10 @@ each read width (suc count) at = read at ∷ each read width count (at + width)
 abbrev pub low : (width number : ℕ) → List ℕ
 low width number = bytesIn LowFirst width number
 
--- numbers one behind another
-unfoldable pub lows : (width : ℕ) → List ℕ → List ℕ
-lows width [] = []
-lows width (number ∷ rest) = low width number ++ lows width rest
+-- the bytes of one thing behind those of another
+unfoldable pub oneByOne : {A : Type 0} → (A → List ℕ) → List A → List ℕ
+oneByOne bytesOf [] = []
+oneByOne bytesOf (first ∷ rest) = bytesOf first ++ oneByOne bytesOf rest
+
+abbrev pub lows : (width : ℕ) → List ℕ → List ℕ
+lows width numbers = oneByOne (low width) numbers

@@ -2,13 +2,12 @@
 use mathlib.Core.Path.{_≡_}
 use mathlib.Core.Bool.{true}
 use mathlib.Core.List.{List, _∷_, _++_}
-use Prim.Native.Nat.{ℕ, _+_, _≤_}
+use Prim.Native.Nat.{ℕ, suc, _+_, _≤_}
 use lib.ListN.{length, drop}
-use Rattle.refusal.specs.Answer.{Answer}
 use Rattle.field.specs.declared.ByteOrder.the-variants.{LowFirst}
 use Rattle.field.specs.Layout.{Bytes}
 use Rattle.field.specs.Field.{fieldAt}
-use Rattle.packed.specs.Bytes.{twoAt, fourAt, low, lows}
+use Rattle.packed.specs.Bytes.{twoAt, fourAt, lows}
 use Rattle.packed.specs.Layout.{placesIn, machineIn, fits, machineBytes}
 use Rattle.packed.specs.Probe.{unwritten, seenOf, probeOf}
 

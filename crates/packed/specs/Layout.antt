@@ -1,4 +1,5 @@
 -- The layout of a question to the probe: what stands at which byte, what fits, and how a state is written back.
+use mathlib.Core.Path.{_≡_}
 use mathlib.Core.List.{List, _++_}
 use mathlib.Core.Bool.{Bool, _&&_}
 use Prim.Native.Nat.{ℕ, _+_, _*_}
@@ -101,3 +102,10 @@ machineBytes m =
     low 2 (length (t .kind)) ++ low 2 (length (t .key)) ++ low 2 (length (t .next)) ++ low 2 (length (t .back))
     ++ stateBytes (m .state)
     ++ lows 1 (t .kind) ++ lows 4 (t .key) ++ lows 2 (t .next) ++ lows 2 (t .back)
+
+-- ---- columns to read a table into: as long as the layout says
+pub record Rooms (bytes kind key next back : List ℕ) : Type 0 where
+  pub kinds : length kind ≡ kindsIn bytes
+  pub keys : length key ≡ keysIn bytes
+  pub nexts : length next ≡ nextsIn bytes
+  pub backs : length back ≡ backsIn bytes

@@ -1,16 +1,18 @@
 -- The probe: one set-up, call, move or listing by the checked entry points on the state that came, and all that it leaves.
-use Prim.{Unit}
+use mathlib.Core.Path.{_≡_}
 use mathlib.Core.List.{List, [], _∷_, _++_}
 use mathlib.Core.Bool.{cond}
-use Prim.Native.Nat.{ℕ}
+use Prim.Native.Nat.{ℕ, zero, suc}
 use lib.ListN.{replicate}
-use Rattle.refusal.specs.Answer.{Answer, accepted, refused, Left}
+use Rattle.refusal.specs.Answer.{Answer, accepted, refused, Tests}
 use Rattle.moves.specs.declared.Said.{Said}
 use Rattle.moves.specs.declared.Said.the-variants.{Nothing, Yes, No}
-use Rattle.bare.specs.Bare.{Machine}
+use Rattle.rows.specs.Table.{Table}
+use Rattle.bare.specs.Bare.{Machine, machine}
 use Rattle.list.specs.Engine.{setUpOf, callOf, moveOf, listOf}
+use Rattle.packed.specs.declared.Found.{Found}
 use Rattle.packed.specs.Bytes.{low, lows}
-use Rattle.packed.specs.Layout.{whatIn, partyIn, codeIn, keyIn, placesIn, tableIn, machineIn, fits, machineBytes}
+use Rattle.packed.specs.Layout.{whatIn, partyIn, codeIn, keyIn, placesIn, machineIn, fits, machineBytes}
 
 -- what the probe shows: a refusal's number or 0, the answer, how many keys were listed, the places, and the state
 pub record Seen : Type 0 where
@@ -45,41 +47,51 @@ abbrev pub listedIn : Answer ℕ → ℕ
 listedIn (accepted count) = count
 listedIn (refused number) = 0
 
--- of a set-up the state that it hands back, and if it is refused the one that came
-abbrev pub handedBack : (came : Machine) → Left Machine (Unit {0}) → Machine
-handedBack came (record { memory = new; answer = accepted done }) = new
-handedBack came (record { memory = new; answer = refused number }) = came
+-- of a set-up the state that it makes, and if it is refused the one that came
+abbrev pub handedBack : (came made : Machine) → Tests → Machine
+handedBack came made (accepted done) = made
+handedBack came made (refused number) = came
 
--- ---- the four questions
+-- ---- the four questions, each with the places that it finds
 
-unfoldable pub setUpSeen : Machine → (parties places : ℕ) → Seen
+unfoldable pub setUpSeen : Machine → (parties : ℕ) → List ℕ → Seen
 setUpSeen m parties places =
     let done = setUpOf (m .table) parties in
-    record { number = refusalIn (done .answer); answer = 0; listed = 0; places = unwritten places; after = handedBack m done }
+    record { number = refusalIn (done .answer); answer = 0; listed = 0; places = places; after = handedBack m (done .memory) (done .answer) }
 
-unfoldable pub callSeen : Machine → (party code key places : ℕ) → Seen
+unfoldable pub callSeen : Machine → (party code key : ℕ) → List ℕ → Seen
 callSeen m party code key places =
     let done = callOf m party code key in
-    record { number = refusalIn (done .answer); answer = 0; listed = 0; places = unwritten places; after = done .memory }
+    record { number = refusalIn (done .answer); answer = 0; listed = 0; places = places; after = done .memory }
 
-unfoldable pub moveSeen : Machine → (party places : ℕ) → Seen
+unfoldable pub moveSeen : Machine → (party : ℕ) → List ℕ → Seen
 moveSeen m party places =
     let done = moveOf m party in
-    record { number = refusalIn (done .answer); answer = saidIn (done .answer); listed = 0; places = unwritten places; after = done .memory }
+    record { number = refusalIn (done .answer); answer = saidIn (done .answer); listed = 0; places = places; after = done .memory }
 
-unfoldable pub listingSeen : Machine → (places : ℕ) → Seen
+unfoldable pub listingSeen : Machine → List ℕ → Seen
 listingSeen m places =
-    let done = listOf m (unwritten places) in
+    let done = listOf m places in
     record { number = refusalIn (done .answer); answer = 0; listed = listedIn (done .answer); places = done .memory; after = m }
 
-abbrev pub seenBy : (what : ℕ) → Machine → (party code key places : ℕ) → Seen
-seenBy 0 m party code key places = setUpSeen m party places
-seenBy 1 m party code key places = callSeen m party code key places
-seenBy 2 m party code key places = moveSeen m party places
-seenBy more m party code key places = listingSeen m places
+abbrev pub seenBy : (what : ℕ) → Machine → (party code key : ℕ) → List ℕ → Seen
+seenBy zero m party code key places = setUpSeen m party places
+seenBy (suc zero) m party code key places = callSeen m party code key places
+seenBy (suc (suc zero)) m party code key places = moveSeen m party places
+seenBy (suc (suc (suc more))) m party code key places = listingSeen m places
 
 unfoldable pub seenOf : List ℕ → Seen
-seenOf bytes = seenBy (whatIn bytes) (machineIn bytes) (partyIn bytes) (codeIn bytes) (keyIn bytes) (placesIn bytes)
+seenOf bytes =
+    seenBy (whatIn bytes) (machineIn bytes) (partyIn bytes) (codeIn bytes) (keyIn bytes) (unwritten (placesIn bytes))
+
+-- what the code has found, with the table and the places that it leaves
+abbrev pub seenIs : Table → List ℕ → Found → Seen
+seenIs t places found =
+    record { number = found .number; answer = found .answer; listed = found .listed; places = places; after = machine t (found .state) }
+
+-- the same whatever the places are, for a question that leaves them alone
+abbrev pub SeesSo : Table → Found → (List ℕ → Seen) → Type 0
+SeesSo t found seen = (places : List ℕ) → seenIs t places found ≡ seen places
 
 -- ---- bytes in, bytes out
 

@@ -1,7 +1,8 @@
 -- A party record in twenty bytes: the numbers of places and calls, how a record is read, which ones fit, how one is written.
 use mathlib.Core.List.{List, [], _∷_, _++_}
 use mathlib.Core.Bool.{Bool, cond, not, _&&_, _||_}
-use Prim.Native.Nat.{ℕ, zero, suc, _+_}
+use Prim.Native.Nat.{ℕ, _+_}
+use lib.ListN.{getD}
 use lib.Dec.{eqb, leb}
 use Rattle.party.specs.declared.Call.{Call}
 use Rattle.party.specs.declared.Call.the-variants.{Add, Remove, Contains}
@@ -9,21 +10,18 @@ use Rattle.party.specs.declared.Place.{Place}
 use Rattle.party.specs.declared.Place.the-variants.{Idle, Walk, Skip, AddSwap, Mark, Reread, Clean, Back, Look}
 use Rattle.party.specs.declared.Party.{Party}
 use Rattle.list.specs.Engine.{callNamed}
-use Rattle.packed.specs.Bytes.{byteAt, twoAt, fourAt, low}
+use Rattle.packed.specs.Bytes.{byteAt, twoAt, fourAt, low, oneByOne}
 
 -- ---- numbers of places and calls
 
--- 0 idle, 1 WALK, 2 SKIP, 3 ADDSWAP, 4 MARK, 5 REREAD, 6 CLEAN, 7 BACK, 8 LOOK; a larger one does not fit
+-- 0 idle, 1 WALK, 2 SKIP, 3 ADDSWAP, 4 MARK, 5 REREAD, 6 CLEAN, 7 BACK, in this order
+abbrev pub numbered : Call → ℕ → List Place
+numbered call key =
+    Idle ∷ Walk call key ∷ Skip call key ∷ AddSwap call key ∷ Mark call key ∷ Reread call key ∷ Clean call key ∷ Back call key ∷ []
+
+-- the place of a number; 8 is LOOK, and a larger one does not fit
 abbrev pub placed : ℕ → Call → ℕ → Place
-placed 0 call key = Idle
-placed 1 call key = Walk call key
-placed 2 call key = Skip call key
-placed 3 call key = AddSwap call key
-placed 4 call key = Mark call key
-placed 5 call key = Reread call key
-placed 6 call key = Clean call key
-placed 7 call key = Back call key
-placed more call key = Look call key
+placed number call key = getD (numbered call key) number (Look call key)
 
 abbrev pub callNumber : Call → ℕ
 callNumber Add = 0
@@ -71,6 +69,5 @@ recordBytes q =
     ++ (cond (q .unpublished) 1 0 ∷ 0 ∷ [])
 
 -- records one behind another
-unfoldable pub recordsBytes : List Party → List ℕ
-recordsBytes [] = []
-recordsBytes (first ∷ rest) = recordBytes first ++ recordsBytes rest
+abbrev pub recordsBytes : List Party → List ℕ
+recordsBytes parties = oneByOne recordBytes parties

@@ -3,7 +3,7 @@ ghost use mathlib.Core.List.{[], _∷_};
 ghost use Rattle.page.specs.Page.{page, Wrote, digits, decimal};
 
 // One byte, if there is room; the answer is the place of the next.
-fn put_byte(out: &mut [u8], at: usize, byte: u8) -> usize
+pub fn put_byte(out: &mut [u8], at: usize, byte: u8) -> usize
     ensures { λ r. ⌜ Wrote (page (now (out .entry)) at) (byte ∷ []) (page (now (out .exit)) r) ⌝ }
 {
     if at < out.len() {

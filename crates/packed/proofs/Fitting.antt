@@ -1,0 +1,59 @@
+-- What the tests of the layout tell of bytes that fit.
+-- Assumes nothing.
+use mathlib.Core.Path.{_≡_}
+use mathlib.Core.Bool.{Bool, true, _&&_}
+use mathlib.Core.List.{List}
+use Prim.Native.Nat.{ℕ, _+_, _*_, _<_, _≤_}
+use lib.ListN.{length}
+use lib.Dec.{eqb, ltb, leb}
+use borrow.Author.Tests.{ltb-true, leb-true, eqb-true}
+use Rattle.columns.specs.Every.{every}
+use Rattle.columns.proofs.Every.{and-left, and-right, every-at}
+use Rattle.packed.specs.Bytes.{fourAt}
+use Rattle.packed.specs.Records.{recordFits}
+use Rattle.packed.specs.Layout.{whatIn, placesIn, kindsIn, keysIn, nextsIn, backsIn, endOf, few, fits}
+
+-- each test as a fact
+pub record Fit (bytes : List ℕ) : Type 0 where
+  pub places : placesIn bytes ≤ 4200
+  pub kinds : kindsIn bytes ≤ 4200
+  pub keys : keysIn bytes ≤ 4200
+  pub nexts : nextsIn bytes ≤ 4200
+  pub backs : backsIn bytes ≤ 4200
+  pub long : length bytes ≡ endOf bytes
+  pub count : fourAt bytes 23 < 256
+  pub taken : fourAt bytes 27 < 65536
+  pub records : (i : ℕ) → i < 16 → recordFits bytes (43 + 20 * i) ≡ true
+
+pub fit-of : (bytes : List ℕ) → fits bytes ≡ true → Fit bytes
+unfolding fits
+fit-of bytes all =
+    let what = leb (whatIn bytes) 3 in
+    let p = few (placesIn bytes) in
+    let k = few (kindsIn bytes) in
+    let y = few (keysIn bytes) in
+    let n = few (nextsIn bytes) in
+    let b = few (backsIn bytes) in
+    let long = eqb (length bytes) (endOf bytes) in
+    let count = ltb (fourAt bytes 23) 256 in
+    let taken = ltb (fourAt bytes 27) 65536 in
+    let test : ℕ → Bool = λ i. recordFits bytes (43 + 20 * i) in
+    let to-tallies = and-left (what && (p && k && y && n && b) && long && (count && taken)) (every test 16) all in
+    let to-length = and-left (what && (p && k && y && n && b) && long) (count && taken) to-tallies in
+    let tallies = and-right (what && (p && k && y && n && b) && long) (count && taken) to-tallies in
+    let to-lengths = and-left (what && (p && k && y && n && b)) long to-length in
+    let five = and-right what (p && k && y && n && b) to-lengths in
+    let four = and-left (p && k && y && n) b five in
+    let three = and-left (p && k && y) n four in
+    let two = and-left (p && k) y three in
+    record {
+      places = leb-true (placesIn bytes) 4200 (and-left p k two);
+      kinds = leb-true (kindsIn bytes) 4200 (and-right p k two);
+      keys = leb-true (keysIn bytes) 4200 (and-right (p && k) y three);
+      nexts = leb-true (nextsIn bytes) 4200 (and-right (p && k && y) n four);
+      backs = leb-true (backsIn bytes) 4200 (and-right (p && k && y && n) b five);
+      long = eqb-true (length bytes) (endOf bytes) (and-right (what && (p && k && y && n && b)) long to-length);
+      count = ltb-true (fourAt bytes 23) 256 (and-left count taken tallies);
+      taken = ltb-true (fourAt bytes 27) 65536 (and-right count taken tallies);
+      records = every-at test 16 (and-right (what && (p && k && y && n && b) && long && (count && taken)) (every test 16) all);
+    }
