@@ -16,7 +16,7 @@ use Rattle.field.specs.Layout.{bytesIn, Bytes}
 use Rattle.refusal.specs.declared.Refusal.{Refusal}
 use Rattle.refusal.specs.declared.Verdict.the-variants.{Accepted, Refused}
 use Rattle.refusal.specs.Number.{numberOf}
-use Rattle.refusal.specs.Answer.{Left, left, refused, verdictIs}
+use Rattle.refusal.specs.Answer.{accepted, refused, Left, left, Tests, verdictIs}
 use Rattle.rows.specs.Table.{Table, tab}
 use Rattle.party.specs.declared.Call.{Call}
 use Rattle.party.specs.declared.State.{State}
@@ -33,7 +33,7 @@ use Rattle.list.proofs.Promises.{refused-set-up-leaves}
 use Rattle.packed.specs.Bytes.{byteAt, twoAt, fourAt, each, low, oneByOne, lows}
 use Rattle.packed.specs.Records.{numbered, placed, recordAt}
 use Rattle.packed.specs.Layout.{kindsIn, keysIn, nextsIn, Rooms, whatIn, partyIn, codeIn, keyIn, placesIn, tableIn, stateIn, fits}
-use Rattle.packed.specs.Probe.{Seen, unwritten, refusalIn, saidIn, listedIn, handedBack, setUpSeen, callSeen, moveSeen, listingSeen, seenBy, seenOf, seenBytes, probeOf}
+use Rattle.packed.specs.Probe.{Seen, unwritten, refusalIn, saidIn, listedIn, handedBack, setUpShown, callShown, moveShown, listShown, seenBy, seenOf, seenBytes, probeOf}
 
 -- ---- a column that a loop reads, entry by entry
 
@@ -142,78 +142,78 @@ pub flag-byte : (flag : Bool) → boolByte flag ≡ cond flag 1 0
 flag-byte true = refl
 flag-byte false = refl
 
--- ---- what a question is told
+-- ---- what an outcome comes to
 
-module _ (m : Machine) where
-  module _ (parties : ℕ) {t : Table} (done : After) (is : afterIs t done ≡ setUpOf (m .table) parties) where
-    pub set-up-told : done .verdict ≡ Accepted → (places : List ℕ) →
-        record { number = 0; answer = 0; listed = 0; places = places; after = machine t (done .state) } ≡ setUpSeen m parties places
-    unfolding setUpSeen
-    set-up-told accepts places =
-        ap (λ (l : Left Machine (Unit {0})). record { number = refusalIn (l .answer); answer = 0; listed = 0; places = places; after = handedBack m (l .memory) (l .answer) })
-        (rw accepts at is)
+module _ (t : Table) (places : List ℕ) where
+  pub set-up-made : (came : State) (done : After) → done .verdict ≡ Accepted →
+      record { number = 0; answer = 0; listed = 0; places = places; after = machine t (done .state) } ≡ setUpShown (machine t came) places (afterIs t done)
+  unfolding setUpShown
+  set-up-made came done accepts = rw accepts
 
-    set-up-found : {why : Refusal} → done .verdict ≡ Refused why → t ≡ m .table
-    set-up-found {why} refuses =
-        let told : left (machine t (done .state)) (refused (numberOf why)) ≡ setUpOf (m .table) parties = rw refuses at is in
-        ap (λ (l : Left Machine (Unit {0})). l .memory .table) is
-        ∙ ap (λ (x : Machine). x .table) (refused-set-up-leaves (m .table) parties (numberOf why) (sym (ap (λ (l : Left Machine (Unit {0})). l .answer) told)))
+  pub set-up-kept : (came : State) (done : After) {why : Refusal} {number : ℕ} → done .verdict ≡ Refused why → number ≡ numberOf why →
+      record { number = number; answer = 0; listed = 0; places = places; after = machine t came } ≡ setUpShown (machine t came) places (afterIs t done)
+  unfolding setUpShown
+  set-up-kept came done refuses numbers = rw (numbers, refuses)
 
-    pub set-up-refused : {why : Refusal} {number : ℕ} → done .verdict ≡ Refused why → number ≡ numberOf why → (places : List ℕ) →
-        record { number = number; answer = 0; listed = 0; places = places; after = machine t (m .state) } ≡ setUpSeen m parties places
-    unfolding setUpSeen
-    set-up-refused {why} refuses numbers places =
-        rw (set-up-found refuses, numbers)
-        (ap (λ (l : Left Machine (Unit {0})). record { number = refusalIn (l .answer); answer = 0; listed = 0; places = places; after = handedBack m (l .memory) (l .answer) })
-        (rw refuses at is))
+  pub call-so : (done : After) {number : ℕ} → number ≡ refusalIn (verdictIs (done .verdict)) →
+      record { number = number; answer = 0; listed = 0; places = places; after = machine t (done .state) } ≡ callShown places (afterIs t done)
+  unfolding callShown
+  call-so done numbers = rw numbers
 
-  pub call-told : (party code key : ℕ) {t : Table} (done : After) {number : ℕ} → afterIs t done ≡ callOf m party code key →
-      number ≡ refusalIn (verdictIs (done .verdict)) → (places : List ℕ) →
-      record { number = number; answer = 0; listed = 0; places = places; after = machine t (done .state) } ≡ callSeen m party code key places
-  unfolding callSeen
-  call-told party code key done is numbers places =
-      rw numbers (ap (λ (l : Left Machine (Unit {0})). record { number = refusalIn (l .answer); answer = 0; listed = 0; places = places; after = l .memory }) is)
+  pub move-so : (done : Stepped) {number answer : ℕ} → number ≡ refusalIn (replyIs (done .reply)) → answer ≡ saidIn (replyIs (done .reply)) →
+      record { number = number; answer = answer; listed = 0; places = places; after = machine t (done .state) } ≡ moveShown places (stepIs t done)
+  unfolding moveShown
+  move-so done numbers says = rw (numbers, says)
 
-  pub move-told : (party : ℕ) {t : Table} (done : Stepped) {number answer : ℕ} → stepIs t done ≡ moveOf m party →
-      number ≡ refusalIn (replyIs (done .reply)) → answer ≡ saidIn (replyIs (done .reply)) → (places : List ℕ) →
-      record { number = number; answer = answer; listed = 0; places = places; after = machine t (done .state) } ≡ moveSeen m party places
-  unfolding moveSeen
-  move-told party done is numbers says places =
-      rw (numbers, says) (ap (λ (l : Left Machine Said). record { number = refusalIn (l .answer); answer = saidIn (l .answer); listed = 0; places = places; after = l .memory }) is)
-
-  pub listing-told : (places : List ℕ) {after : List ℕ} (done : Listed) {number count : ℕ} → left after (listedIs done) ≡ listOf m places →
-      number ≡ refusalIn (listedIs done) → count ≡ listedIn (listedIs done) →
-      record { number = number; answer = 0; listed = count; places = after; after = m } ≡ listingSeen m places
-  unfolding listingSeen
-  listing-told places done is numbers counts =
-      rw (numbers, counts) (ap (λ (l : Left (List ℕ) ℕ). record { number = refusalIn (l .answer); answer = 0; listed = listedIn (l .answer); places = l .memory; after = m }) is)
+  pub listing-so : (st : State) (done : Listed) {number count : ℕ} → number ≡ refusalIn (listedIs done) → count ≡ listedIn (listedIs done) →
+      record { number = number; answer = 0; listed = count; places = places; after = machine t st } ≡ listShown (machine t st) (left places (listedIs done))
+  unfolding listShown
+  listing-so st done numbers counts = rw (numbers, counts)
 
 -- ---- which question is asked
 
+-- a refused set-up has not touched the columns, so that the state that came is handed back with them
+handed-same : (a : Tests) (came came′ made : Machine) → ((number : ℕ) → a ≡ refused number → came ≡ came′) → handedBack came made a ≡ handedBack came′ made a
+handed-same (accepted done) came came′ made same = refl
+handed-same (refused number) came came′ made same = same number refl
+
+set-up-so : (m : Machine) (parties : ℕ) (places : List ℕ) (t : Table) (done : After) → afterIs t done ≡ setUpOf (m .table) parties →
+    setUpShown (machine t (m .state)) places (afterIs t done) ≡ setUpShown m places (setUpOf (m .table) parties)
+unfolding setUpShown
+set-up-so m parties places t done is =
+    let columns : (number : ℕ) → verdictIs (done .verdict) ≡ refused number → machine t (m .state) ≡ m =
+    λ number stops. ap (λ (t′ : Table). machine t′ (m .state))
+    (ap (λ (l : Left Machine (Unit {0})). l .memory .table) is
+    ∙ ap (λ (x : Machine). x .table) (refused-set-up-leaves (m .table) parties number (sym (ap (λ (l : Left Machine (Unit {0})). l .answer) is) ∙ stops))) in
+    ap (λ (after : Machine). record { number = refusalIn (verdictIs (done .verdict)); answer = 0; listed = 0; places = places; after = after })
+    (handed-same (verdictIs (done .verdict)) (machine t (m .state)) m (machine t (done .state)) columns)
+    ∙ ap (λ (l : Left Machine (Unit {0})). record { number = refusalIn (l .answer); answer = 0; listed = 0; places = places; after = handedBack m (l .memory) (l .answer) }) is
+
 module _ (bytes : List ℕ) (m : Machine) (places : List ℕ) where
-  pub asks-set-up : {what party : ℕ} {seen : Seen} → what ≡ whatIn bytes → party ≡ partyIn bytes → what ≡ 0 →
-      seen ≡ setUpSeen m party places → seen ≡ seenBy (whatIn bytes) m (partyIn bytes) (codeIn bytes) (keyIn bytes) places
-  asks-set-up named whose is e = rw (← named, is, ← whose) e
+  pub asks-set-up : {what party : ℕ} {seen : Seen} (t : Table) (done : After) → what ≡ whatIn bytes → party ≡ partyIn bytes → what ≡ 0 →
+      afterIs t done ≡ setUpOf (m .table) party → seen ≡ setUpShown (machine t (m .state)) places (afterIs t done) →
+      seen ≡ seenBy (whatIn bytes) m (partyIn bytes) (codeIn bytes) (keyIn bytes) places
+  asks-set-up {party = party} t done named whose is leaves e = rw (← named, is, ← whose) (e ∙ set-up-so m party places t done leaves)
 
-  pub asks-call : {what party code key : ℕ} {seen : Seen} →
+  pub asks-call : {what party code key : ℕ} {seen : Seen} {left : Left Machine (Unit {0})} →
       what ≡ whatIn bytes → party ≡ partyIn bytes → code ≡ codeIn bytes → key ≡ keyIn bytes → what ≡ 1 →
-      seen ≡ callSeen m party code key places → seen ≡ seenBy (whatIn bytes) m (partyIn bytes) (codeIn bytes) (keyIn bytes) places
-  asks-call named whose codes keys is e = rw (← named, is, ← whose, ← codes, ← keys) e
+      left ≡ callOf m party code key → seen ≡ callShown places left → seen ≡ seenBy (whatIn bytes) m (partyIn bytes) (codeIn bytes) (keyIn bytes) places
+  asks-call named whose codes keys is leaves e = rw (← named, is, ← whose, ← codes, ← keys) (e ∙ ap (callShown places) leaves)
 
-  pub asks-move : {what party : ℕ} {seen : Seen} → what ≡ whatIn bytes → party ≡ partyIn bytes → what ≡ 2 →
-      seen ≡ moveSeen m party places → seen ≡ seenBy (whatIn bytes) m (partyIn bytes) (codeIn bytes) (keyIn bytes) places
-  asks-move named whose is e = rw (← named, is, ← whose) e
+  pub asks-move : {what party : ℕ} {seen : Seen} {left : Left Machine Said} → what ≡ whatIn bytes → party ≡ partyIn bytes → what ≡ 2 →
+      left ≡ moveOf m party → seen ≡ moveShown places left → seen ≡ seenBy (whatIn bytes) m (partyIn bytes) (codeIn bytes) (keyIn bytes) places
+  asks-move named whose is leaves e = rw (← named, is, ← whose) (e ∙ ap (moveShown places) leaves)
 
-past-move : (what : ℕ) (m : Machine) (party code key : ℕ) (places : List ℕ) → 3 ≤ what → listingSeen m places ≡ seenBy what m party code key places
+past-move : (what : ℕ) (m : Machine) (party code key : ℕ) (places : List ℕ) → 3 ≤ what → listShown m (listOf m places) ≡ seenBy what m party code key places
 past-move zero m party code key places past = absurd (omega arith)
 past-move (suc zero) m party code key places past = absurd (omega arith)
 past-move (suc (suc zero)) m party code key places past = absurd (omega arith)
 past-move (suc (suc (suc more))) m party code key places past = refl
 
-pub asks-listing : (bytes : List ℕ) (m : Machine) (places : List ℕ) {what : ℕ} {seen : Seen} → what ≡ whatIn bytes → 3 ≤ what →
-    seen ≡ listingSeen m places → seen ≡ seenBy (whatIn bytes) m (partyIn bytes) (codeIn bytes) (keyIn bytes) places
-asks-listing bytes m places named past e =
-    e ∙ past-move (whatIn bytes) m (partyIn bytes) (codeIn bytes) (keyIn bytes) places (rw named at past)
+pub asks-listing : (bytes : List ℕ) (m : Machine) (places : List ℕ) {what : ℕ} {seen : Seen} {left : Left (List ℕ) ℕ} → what ≡ whatIn bytes → 3 ≤ what →
+    left ≡ listOf m places → seen ≡ listShown m left → seen ≡ seenBy (whatIn bytes) m (partyIn bytes) (codeIn bytes) (keyIn bytes) places
+asks-listing bytes m places named past leaves e =
+    e ∙ ap (listShown m) leaves ∙ past-move (whatIn bytes) m (partyIn bytes) (codeIn bytes) (keyIn bytes) places (rw named at past)
 
 -- on the state and the places that came
 pub seen-told : (bytes : List ℕ) {t : Table} {st : State} {places : List ℕ} {seen : Seen} → t ≡ tableIn bytes → st ≡ stateIn bytes →

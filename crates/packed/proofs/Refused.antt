@@ -11,7 +11,7 @@ use Rattle.list.specs.Engine.{setUpOf, callOf, moveOf, listOf}
 use Rattle.list.proofs.Promises.{refused-call-leaves, refused-move-leaves, refused-listing-leaves}
 use Rattle.packed.specs.Bytes.{lows}
 use Rattle.packed.specs.Layout.{whatIn, partyIn, codeIn, keyIn, placesIn, machineIn}
-use Rattle.packed.specs.Probe.{Seen, unwritten, refusalIn, handedBack, setUpSeen, callSeen, moveSeen, listingSeen, seenBy, seenOf, seenBytes}
+use Rattle.packed.specs.Probe.{Seen, unwritten, refusalIn, handedBack, setUpShown, callShown, moveShown, listShown, seenBy, seenOf, seenBytes}
 use Rattle.packed.specs.Claims.{RefusedAsFound}
 use Rattle.packed.proofs.Laws.{probe-fits}
 use Rattle.packed.proofs.Written.{read-is-written}
@@ -26,26 +26,26 @@ abbrev untouched : Machine → List ℕ → ℕ → Seen
 untouched m places number = record { number = suc number; answer = 0; listed = 0; places = places; after = m }
 
 module _ (m : Machine) (places : List ℕ) (number : ℕ) where
-  set-up-untouched : (parties : ℕ) → setUpSeen m parties places .number ≡ suc number → setUpSeen m parties places ≡ untouched m places number
-  unfolding setUpSeen
+  set-up-untouched : (parties : ℕ) → setUpShown m places (setUpOf (m .table) parties) .number ≡ suc number → setUpShown m places (setUpOf (m .table) parties) ≡ untouched m places number
+  unfolding setUpShown
   set-up-untouched parties is =
       ap (λ (a : Tests). record { number = refusalIn a; answer = 0; listed = 0; places = places; after = handedBack m (setUpOf (m .table) parties .memory) a })
       (refused-by (setUpOf (m .table) parties .answer) number is)
 
-  call-untouched : (party code key : ℕ) → callSeen m party code key places .number ≡ suc number → callSeen m party code key places ≡ untouched m places number
-  unfolding callSeen
+  call-untouched : (party code key : ℕ) → callShown places (callOf m party code key) .number ≡ suc number → callShown places (callOf m party code key) ≡ untouched m places number
+  unfolding callShown
   call-untouched party code key is =
       let stops = refused-by (callOf m party code key .answer) number is in
       rw (stops, refused-call-leaves m party code key (suc number) stops)
 
-  move-untouched : (party : ℕ) → moveSeen m party places .number ≡ suc number → moveSeen m party places ≡ untouched m places number
-  unfolding moveSeen
+  move-untouched : (party : ℕ) → moveShown places (moveOf m party) .number ≡ suc number → moveShown places (moveOf m party) ≡ untouched m places number
+  unfolding moveShown
   move-untouched party is =
       let stops = refused-by (moveOf m party .answer) number is in
       rw (stops, refused-move-leaves m party (suc number) stops)
 
-  listing-untouched : listingSeen m places .number ≡ suc number → listingSeen m places ≡ untouched m places number
-  unfolding listingSeen
+  listing-untouched : listShown m (listOf m places) .number ≡ suc number → listShown m (listOf m places) ≡ untouched m places number
+  unfolding listShown
   listing-untouched is =
       let stops = refused-by (listOf m places .answer) number is in
       rw (stops, refused-listing-leaves m places (suc number) stops)

@@ -33,7 +33,7 @@ use Rattle.list.proofs.Laws.{past-form, table-fits, past-set-up}
 use Rattle.packed.specs.Bytes.{low, oneByOne, byteAt, twoAt, fourAt}
 use Rattle.packed.specs.Records.{placeBytes, recordAt, recordBytes}
 use Rattle.packed.specs.Layout.{whatIn, partyIn, codeIn, keyIn, placesIn, kindsIn, keysIn, nextsIn, backsIn, keysFrom, nextsFrom, backsFrom, tableIn, stateIn, machineIn, fits, stateBytes, machineBytes}
-use Rattle.packed.specs.Probe.{Seen, unwritten, handedBack, setUpSeen, callSeen, moveSeen, listingSeen, seenBy, seenOf, seenBytes, probeOf}
+use Rattle.packed.specs.Probe.{Seen, unwritten, handedBack, setUpShown, callShown, moveShown, listShown, seenBy, seenOf, seenBytes, probeOf}
 use Rattle.packed.specs.Claims.{OutputFits}
 use Rattle.packed.proofs.Fitting.{fit-of}
 use Rattle.packed.proofs.Laws.{probe-fits, probe-none}
@@ -194,22 +194,22 @@ handed-alike m (accepted done) blank new alike = alike refl
 handed-alike m (refused number) blank new alike = same m
 
 module _ (m : Machine) (places : List ℕ) (sixteen : length (m .state .parties) ≡ 16) where
-  set-up-sized : (parties : ℕ) → Sized m places (setUpSeen m parties places)
-  unfolding setUpSeen setUpOf
+  set-up-sized : (parties : ℕ) → Sized m places (setUpShown m places (setUpOf (m .table) parties))
+  unfolding setUpShown setUpOf
   set-up-sized parties = record {
     after = handed-alike m (setUpTests (m .table) parties) (machine (m .table) (restingState 0 0)) (machine (freshTable (rowsIn (m .table))) (restingState parties 4)) (fresh-alike m parties sixteen);
     room = refl;
   }
 
-  call-sized : (party code key : ℕ) → Sized m places (callSeen m party code key places)
-  unfolding callSeen callOf
+  call-sized : (party code key : ℕ) → Sized m places (callShown places (callOf m party code key))
+  unfolding callShown callOf
   call-sized party code key = record {
     after = left-alike m (callTests m party code) (left (bareCallOf m party (callNamed code) key) passed) (λ passes. call-alike m party code key);
     room = refl;
   }
 
-  move-sized : (party : ℕ) → Sized m places (moveSeen m party places)
-  unfolding moveSeen moveOf
+  move-sized : (party : ℕ) → Sized m places (moveShown places (moveOf m party))
+  unfolding moveShown moveOf
   move-sized party = record {
     after = left-alike m (moveTests m party) (accepting (bareMoveOf m party)) (λ passes. move-alike m party);
     room = refl;
@@ -227,8 +227,8 @@ module _ (m : Machine) (places : List ℕ) (sixteen : length (m .state .parties)
       let last = past-test (not (chainRises m)) 3 (refusing (ltb (length places) (length (liveKeys m))) 10 passed) asked .1 in
       ltb-false (length places) (length (liveKeys m)) (past-test (ltb (length places) (length (liveKeys m))) 10 passed last .0)
 
-  listing-sized : Sized m places (listingSeen m places)
-  unfolding listingSeen listOf
+  listing-sized : Sized m places (listShown m (listOf m places))
+  unfolding listShown listOf
   listing-sized = record { after = same m; room = places-kept (listTests m (length places)) enough-places }
 
   seen-sized : (what party code key : ℕ) → Sized m places (seenBy what m party code key places)

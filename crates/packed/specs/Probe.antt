@@ -1,10 +1,11 @@
 -- The probe: one set-up, call, move or listing by the checked entry points on the state that came, and all that it leaves.
+use Prim.{Unit}
 use mathlib.Core.Path.{_≡_}
 use mathlib.Core.List.{List, [], _∷_, _++_}
 use mathlib.Core.Bool.{cond}
 use Prim.Native.Nat.{ℕ, zero, suc}
 use lib.ListN.{replicate}
-use Rattle.refusal.specs.Answer.{Answer, accepted, refused, Tests}
+use Rattle.refusal.specs.Answer.{Answer, accepted, refused, Left, Tests}
 use Rattle.moves.specs.declared.Said.{Said}
 use Rattle.moves.specs.declared.Said.the-variants.{Nothing, Yes, No}
 use Rattle.rows.specs.Table.{Table}
@@ -52,33 +53,30 @@ abbrev pub handedBack : (came made : Machine) → Tests → Machine
 handedBack came made (accepted done) = made
 handedBack came made (refused number) = came
 
--- ---- the four questions, each with the places that it finds
+-- ---- what is seen of each outcome
 
-unfoldable pub setUpSeen : Machine → (parties : ℕ) → List ℕ → Seen
-setUpSeen m parties places =
-    let done = setUpOf (m .table) parties in
-    record { number = refusalIn (done .answer); answer = 0; listed = 0; places = places; after = handedBack m (done .memory) (done .answer) }
+unfoldable pub setUpShown : (came : Machine) (places : List ℕ) → Left Machine (Unit {0}) → Seen
+setUpShown came places done =
+    record { number = refusalIn (done .answer); answer = 0; listed = 0; places = places; after = handedBack came (done .memory) (done .answer) }
 
-unfoldable pub callSeen : Machine → (party code key : ℕ) → List ℕ → Seen
-callSeen m party code key places =
-    let done = callOf m party code key in
-    record { number = refusalIn (done .answer); answer = 0; listed = 0; places = places; after = done .memory }
+unfoldable pub callShown : (places : List ℕ) → Left Machine (Unit {0}) → Seen
+callShown places done = record { number = refusalIn (done .answer); answer = 0; listed = 0; places = places; after = done .memory }
 
-unfoldable pub moveSeen : Machine → (party : ℕ) → List ℕ → Seen
-moveSeen m party places =
-    let done = moveOf m party in
+unfoldable pub moveShown : (places : List ℕ) → Left Machine Said → Seen
+moveShown places done =
     record { number = refusalIn (done .answer); answer = saidIn (done .answer); listed = 0; places = places; after = done .memory }
 
-unfoldable pub listingSeen : Machine → List ℕ → Seen
-listingSeen m places =
-    let done = listOf m places in
+unfoldable pub listShown : Machine → Left (List ℕ) ℕ → Seen
+listShown m done =
     record { number = refusalIn (done .answer); answer = 0; listed = listedIn (done .answer); places = done .memory; after = m }
 
+-- ---- the four questions
+
 abbrev pub seenBy : (what : ℕ) → Machine → (party code key : ℕ) → List ℕ → Seen
-seenBy zero m party code key places = setUpSeen m party places
-seenBy (suc zero) m party code key places = callSeen m party code key places
-seenBy (suc (suc zero)) m party code key places = moveSeen m party places
-seenBy (suc (suc (suc more))) m party code key places = listingSeen m places
+seenBy zero m party code key places = setUpShown m places (setUpOf (m .table) party)
+seenBy (suc zero) m party code key places = callShown places (callOf m party code key)
+seenBy (suc (suc zero)) m party code key places = moveShown places (moveOf m party)
+seenBy (suc (suc (suc more))) m party code key places = listShown m (listOf m places)
 
 unfoldable pub seenOf : List ℕ → Seen
 seenOf bytes =
@@ -89,9 +87,9 @@ abbrev pub seenIs : Table → List ℕ → Found → Seen
 seenIs t places found =
     record { number = found .number; answer = found .answer; listed = found .listed; places = places; after = machine t (found .state) }
 
--- the same whatever the places are, for a question that leaves them alone
-abbrev pub SeesSo : Table → Found → (List ℕ → Seen) → Type 0
-SeesSo t found seen = (places : List ℕ) → seenIs t places found ≡ seen places
+-- it comes to this, whatever table and places are left
+abbrev pub FoundSo : Found → (Table → List ℕ → Seen) → Type 0
+FoundSo found seen = (t : Table) (places : List ℕ) → seenIs t places found ≡ seen t places
 
 -- ---- bytes in, bytes out
 

@@ -10,6 +10,7 @@ use Rattle.party.specs.declared.Place.{Place}
 use Rattle.party.specs.declared.Place.the-variants.{Idle, Walk, Skip, AddSwap, Mark, Reread, Clean, Back, Look}
 use Rattle.party.specs.declared.Party.{Party}
 use Rattle.list.specs.Engine.{callNamed}
+use Rattle.packed.specs.declared.write.Spelled.{Spelled}
 use Rattle.packed.specs.Bytes.{byteAt, twoAt, fourAt, low, oneByOne}
 
 -- ---- numbers of places and calls
@@ -39,6 +40,10 @@ placeBytes (Reread call key) = 5 ∷ callNumber call ∷ low 4 key
 placeBytes (Clean call key) = 6 ∷ callNumber call ∷ low 4 key
 placeBytes (Back call key) = 7 ∷ callNumber call ∷ low 4 key
 placeBytes (Look call key) = 8 ∷ callNumber call ∷ low 4 key
+
+-- the same bytes, as the code spells a place
+abbrev pub spelledBytes : Spelled → List ℕ
+spelledBytes spelled = spelled .number ∷ spelled .call ∷ low 4 (spelled .key)
 
 -- ---- a record: place, call, key, then p, n, c, s, r, own, then 1 for an unpublished own, then a zero
 

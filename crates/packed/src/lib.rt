@@ -2,8 +2,14 @@
 mod read;
 mod write;
 
+use list::After;
 use list::Listed;
 use list::Reply;
+use list::Stepped;
+use list::call;
+use list::listing;
+use list::set_up;
+use list::step;
 use moves::Said;
 use page::put_byte;
 use party::State;
@@ -19,13 +25,13 @@ use write::put_two;
 use write::put_u32s;
 ghost use mathlib.Core.Path.{_≡_};
 ghost use mathlib.Core.Bool.{true};
-ghost use Rattle.refusal.specs.Answer.{verdictIs};
+ghost use Rattle.refusal.specs.Answer.{left, verdictIs};
 ghost use Rattle.rows.specs.Table.{tab};
 ghost use Rattle.page.specs.Page.{page, Wrote};
 ghost use Rattle.bare.specs.Bare.{machine};
-ghost use Rattle.list.specs.Answers.{replyIs, listedIs};
+ghost use Rattle.list.specs.Answers.{afterIs, replyIs, stepIs, listedIs};
 ghost use Rattle.packed.specs.Layout.{whatIn, partyIn, codeIn, keyIn, placesIn, fits, Rooms};
-ghost use Rattle.packed.specs.Probe.{unwritten, saidIn, refusalIn, listedIn, setUpSeen, callSeen, moveSeen, listingSeen, seenBy, seenIs, SeesSo, seenOf, seenBytes, probeOf};
+ghost use Rattle.packed.specs.Probe.{unwritten, saidIn, refusalIn, listedIn, setUpShown, callShown, moveShown, listShown, seenBy, seenIs, FoundSo, seenOf, seenBytes, probeOf};
 
 // What a question has found: a refusal's number or 0, the answer, how many keys were listed, and the state.
 struct Found {
@@ -89,18 +95,10 @@ fn listed_in(listed: Listed) -> usize
     }
 }
 
-// Asks for a set-up; refused, it hands back the state that came.
-fn ask_set_up(
-    kind: &mut [u8],
-    key: &mut [u32],
-    next: &mut [u16],
-    back: &mut [u16],
-    came: State,
-    parties: u32,
-) -> Found
-    ensures { λ r. ⌜ SeesSo (tab (now (kind .exit)) (now (key .exit)) (now (next .exit)) (now (back .exit))) r (setUpSeen (machine (tab (now (kind .entry)) (now (key .entry)) (now (next .entry)) (now (back .entry))) came) parties) ⌝ }
+// What a set-up comes to; refused, it hands back the state that came.
+fn set_up_found(came: State, done: After) -> Found
+    ensures { λ r. ⌜ FoundSo r (λ t places. setUpShown (machine t came) places (afterIs t done)) ⌝ }
 {
-    let done = list::set_up(kind, key, next, back, parties);
     let verdict = done.verdict;
     let made = done.state;
     match verdict {
@@ -119,20 +117,10 @@ fn ask_set_up(
     }
 }
 
-// Asks for a call.
-fn ask_call(
-    kind: &mut [u8],
-    key: &mut [u32],
-    next: &mut [u16],
-    back: &mut [u16],
-    state: State,
-    party: u32,
-    code: u32,
-    wanted: u32,
-) -> Found
-    ensures { λ r. ⌜ SeesSo (tab (now (kind .exit)) (now (key .exit)) (now (next .exit)) (now (back .exit))) r (callSeen (machine (tab (now (kind .entry)) (now (key .entry)) (now (next .entry)) (now (back .entry))) state) party code wanted) ⌝ }
+// What a call comes to.
+fn call_found(done: After) -> Found
+    ensures { λ r. ⌜ FoundSo r (λ t places. callShown places (afterIs t done)) ⌝ }
 {
-    let done = list::call(kind, key, next, back, state, party, code, wanted);
     let verdict = done.verdict;
     let after = done.state;
     Found {
@@ -143,18 +131,10 @@ fn ask_call(
     }
 }
 
-// Asks for a move.
-fn ask_move(
-    kind: &mut [u8],
-    key: &mut [u32],
-    next: &mut [u16],
-    back: &mut [u16],
-    state: State,
-    party: u32,
-) -> Found
-    ensures { λ r. ⌜ SeesSo (tab (now (kind .exit)) (now (key .exit)) (now (next .exit)) (now (back .exit))) r (moveSeen (machine (tab (now (kind .entry)) (now (key .entry)) (now (next .entry)) (now (back .entry))) state) party) ⌝ }
+// What a move comes to.
+fn move_found(done: Stepped) -> Found
+    ensures { λ r. ⌜ FoundSo r (λ t places. moveShown places (stepIs t done)) ⌝ }
 {
-    let done = list::step(kind, key, next, back, state, party);
     let reply = done.reply;
     let after = done.state;
     Found {
@@ -165,23 +145,15 @@ fn ask_move(
     }
 }
 
-// Asks for a listing.
-fn ask_listing(
-    kind: &[u8],
-    key: &[u32],
-    next: &[u16],
-    back: &[u16],
-    state: State,
-    places: &mut [u32],
-) -> Found
-    ensures { λ r. ⌜ seenIs (tab (now (kind .entry)) (now (key .entry)) (now (next .entry)) (now (back .entry))) (now (places .exit)) r ≡ listingSeen (machine (tab (now (kind .entry)) (now (key .entry)) (now (next .entry)) (now (back .entry))) state) (now (places .entry)) ⌝ }
+// What a listing comes to.
+fn listing_found(state: State, done: Listed) -> Found
+    ensures { λ r. ⌜ FoundSo r (λ t places. listShown (machine t state) (left places (listedIs done))) ⌝ }
 {
-    let listed = list::listing(kind, key, next, back, state, places);
     Found {
         state,
-        number: listing_number(listed),
+        number: listing_number(done),
         answer: 0,
-        listed: listed_in(listed),
+        listed: listed_in(done),
     }
 }
 
@@ -202,10 +174,10 @@ fn ask(
     let code = four_at(bytes, 5);
     let wanted = four_at(bytes, 9);
     match what {
-        0 => ask_set_up(kind, key, next, back, state, party),
-        1 => ask_call(kind, key, next, back, state, party, code, wanted),
-        2 => ask_move(kind, key, next, back, state, party),
-        _ => ask_listing(kind, key, next, back, state, places),
+        0 => set_up_found(state, set_up(kind, key, next, back, party)),
+        1 => call_found(call(kind, key, next, back, state, party, code, wanted)),
+        2 => move_found(step(kind, key, next, back, state, party)),
+        _ => listing_found(state, listing(kind, key, next, back, state, places)),
     }
 }
 

@@ -12,7 +12,7 @@ ghost use Rattle.rows.specs.Table.{tab};
 ghost use Rattle.page.specs.Page.{page, Wrote};
 ghost use Rattle.bare.specs.Bare.{machine};
 ghost use Rattle.packed.specs.Bytes.{low, lows};
-ghost use Rattle.packed.specs.Records.{callNumber, placeBytes, recordBytes, recordsBytes};
+ghost use Rattle.packed.specs.Records.{spelledBytes, callNumber, placeBytes, recordBytes, recordsBytes};
 ghost use Rattle.packed.specs.Layout.{stateBytes, machineBytes};
 
 // Two bytes of a number, the low byte first.
@@ -64,6 +64,13 @@ pub(crate) fn put_u32s(out: &mut [u8], to: usize, column: &[u32]) -> usize
     at
 }
 
+// A place in numbers: its own, its call's, its key.
+struct Spelled {
+    number: u8,
+    call: u8,
+    key: u32,
+}
+
 // The number of a call.
 fn call_number(call: Call) -> u8
     ensures { λ r. ⌜ r ≡ callNumber call ⌝ }
@@ -75,30 +82,42 @@ fn call_number(call: Call) -> u8
     }
 }
 
-// The number of a place, its call and its key.
-fn put_call(out: &mut [u8], to: usize, number: u8, call: Call, key: u32) -> usize
-    ensures { λ r. ⌜ Wrote (page (now (out .entry)) to) (number ∷ callNumber call ∷ low 4 key) (page (now (out .exit)) r) ⌝ }
+// A place of a number, with its call and its key.
+fn spell(number: u8, call: Call, key: u32) -> Spelled
+    ensures { λ r. ⌜ spelledBytes r ≡ number ∷ callNumber call ∷ low 4 key ⌝ }
 {
-    let a = put_byte(out, to, number);
-    let b = put_byte(out, a, call_number(call));
-    put_four(out, b, key as usize)
+    Spelled {
+        number,
+        call: call_number(call),
+        key,
+    }
 }
 
-// A place; an idle party has neither call nor key.
+// A place spelled out; an idle party has neither call nor key.
+fn spell_out(place: Place) -> Spelled
+    ensures { λ r. ⌜ spelledBytes r ≡ placeBytes place ⌝ }
+{
+    match place {
+        Place::Idle => spell(0, Call::Add, 0),
+        Place::Walk(call, key) => spell(1, call, key),
+        Place::Skip(call, key) => spell(2, call, key),
+        Place::AddSwap(call, key) => spell(3, call, key),
+        Place::Mark(call, key) => spell(4, call, key),
+        Place::Reread(call, key) => spell(5, call, key),
+        Place::Clean(call, key) => spell(6, call, key),
+        Place::Back(call, key) => spell(7, call, key),
+        Place::Look(call, key) => spell(8, call, key),
+    }
+}
+
+// The six bytes of a place.
 fn put_place(out: &mut [u8], to: usize, place: Place) -> usize
     ensures { λ r. ⌜ Wrote (page (now (out .entry)) to) (placeBytes place) (page (now (out .exit)) r) ⌝ }
 {
-    match place {
-        Place::Idle => put_call(out, to, 0, Call::Add, 0),
-        Place::Walk(call, key) => put_call(out, to, 1, call, key),
-        Place::Skip(call, key) => put_call(out, to, 2, call, key),
-        Place::AddSwap(call, key) => put_call(out, to, 3, call, key),
-        Place::Mark(call, key) => put_call(out, to, 4, call, key),
-        Place::Reread(call, key) => put_call(out, to, 5, call, key),
-        Place::Clean(call, key) => put_call(out, to, 6, call, key),
-        Place::Back(call, key) => put_call(out, to, 7, call, key),
-        Place::Look(call, key) => put_call(out, to, 8, call, key),
-    }
+    let six = spell_out(place);
+    let a = put_byte(out, to, six.number);
+    let b = put_byte(out, a, six.call);
+    put_four(out, b, six.key as usize)
 }
 
 // 1 for an unpublished own, then a zero.
