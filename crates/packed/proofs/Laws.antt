@@ -1,6 +1,5 @@
--- Numbers read and written byte by byte, columns read and written entry by entry, and what a question is told.
+-- Numbers read and written byte by byte, columns and party records read and written one by one.
 -- Assumes nothing.
-use Prim.{Unit}
 use mathlib.Core.Path.{_≡_, refl, ap, sym, _∙_}
 use mathlib.Core.Bool.{Bool, true, false, cond}
 use mathlib.Core.List.{List, [], _∷_, _++_, append-nil}
@@ -10,30 +9,18 @@ use native.Mathlib.Numerals.{add-one}
 use native.Mathlib.Omega.{arith}
 use lib.Dec.{eqb}
 use mir.Val.{boolByte}
-use lib.ListN.{length, getD, set, take, drop, replicate, List·getD-eq-default, length-replicate}
+use lib.ListN.{length, getD, set, drop, List·getD-eq-default}
 use lib.Seq.{drop-cons, drop-length}
 use Rattle.field.specs.Layout.{bytesIn, Bytes}
-use Rattle.refusal.specs.declared.Refusal.{Refusal}
-use Rattle.refusal.specs.declared.Verdict.the-variants.{Accepted, Refused}
-use Rattle.refusal.specs.Number.{numberOf}
-use Rattle.refusal.specs.Answer.{accepted, refused, Left, left, Tests, verdictIs}
 use Rattle.rows.specs.Table.{Table, tab}
 use Rattle.party.specs.declared.Call.{Call}
-use Rattle.party.specs.declared.State.{State}
 use Rattle.party.specs.declared.Place.{Place}
 use Rattle.party.specs.declared.Place.the-variants.{Look}
-use Rattle.bare.specs.Bare.{Machine, machine}
-use Rattle.moves.specs.declared.Said.{Said}
-use Rattle.list.specs.declared.After.{After}
-use Rattle.list.specs.declared.Stepped.{Stepped}
-use Rattle.list.specs.declared.Listed.{Listed}
-use Rattle.list.specs.Answers.{afterIs, replyIs, stepIs, listedIs}
-use Rattle.list.specs.Engine.{callNamed, setUpOf, callOf, moveOf, listOf}
-use Rattle.list.proofs.Promises.{refused-set-up-leaves}
+use Rattle.list.specs.Engine.{callNamed}
 use Rattle.packed.specs.Bytes.{byteAt, twoAt, fourAt, each, low, oneByOne, lows}
 use Rattle.packed.specs.Records.{numbered, placed, recordAt}
-use Rattle.packed.specs.Layout.{kindsIn, keysIn, nextsIn, Rooms, whatIn, partyIn, codeIn, keyIn, placesIn, tableIn, stateIn, fits}
-use Rattle.packed.specs.Probe.{Seen, unwritten, refusalIn, saidIn, listedIn, handedBack, setUpShown, callShown, moveShown, listShown, seenBy, seenOf, seenBytes, probeOf}
+use Rattle.packed.specs.Layout.{kindsIn, keysIn, nextsIn, tableIn}
+use Rattle.packed.proofs.Fitting.{Rooms}
 
 -- ---- a column that a loop reads, entry by entry
 
@@ -68,13 +55,13 @@ module _ {A : Type 0} (read : ℕ → A) (width : ℕ) where
   read-none column from = refl
 
 -- four columns, each read behind the one before
-pub table-told : (bytes : List ℕ) {kind key next back kind′ key′ next′ back′ : List ℕ} {kinds keys nexts : ℕ} → Rooms bytes kind key next back →
+pub table-told : (bytes : List ℕ) {t : Table} {kind key next back : List ℕ} {kinds keys nexts : ℕ} → Rooms bytes t →
     kinds ≡ kindsIn bytes → keys ≡ keysIn bytes → nexts ≡ nextsIn bytes →
-    kind′ ≡ each (byteAt bytes) 1 (length kind) 363 →
-    key′ ≡ each (fourAt bytes) 4 (length key) (363 + kinds) →
-    next′ ≡ each (twoAt bytes) 2 (length next) (363 + kinds + 4 * keys) →
-    back′ ≡ each (twoAt bytes) 2 (length back) (363 + kinds + 4 * keys + 2 * nexts) →
-    tab kind′ key′ next′ back′ ≡ tableIn bytes
+    kind ≡ each (byteAt bytes) 1 (length (t .kind)) 363 →
+    key ≡ each (fourAt bytes) 4 (length (t .key)) (363 + kinds) →
+    next ≡ each (twoAt bytes) 2 (length (t .next)) (363 + kinds + 4 * keys) →
+    back ≡ each (twoAt bytes) 2 (length (t .back)) (363 + kinds + 4 * keys + 2 * nexts) →
+    tab kind key next back ≡ tableIn bytes
 unfolding tableIn
 table-told bytes rooms kinds keys nexts a b c d =
     rw (a, b, c, d, kinds, keys, nexts, rooms .kinds, rooms .keys, rooms .nexts, rooms .backs)
@@ -104,7 +91,7 @@ four-bytes number =
     rw (third, fourth)
 
 -- a byte is its own low byte
-one-byte : (byte : ℕ) → byte < 256 → low 1 byte ≡ byte ∷ []
+pub one-byte : (byte : ℕ) → byte < 256 → low 1 byte ≡ byte ∷ []
 unfolding bytesIn
 one-byte byte small = let same : byte / 1 % 256 ≡ byte = omega arith in rw same
 
@@ -141,102 +128,3 @@ record-told bytes at {code} {number} {key} codes calls numbers keys places ps ns
 pub flag-byte : (flag : Bool) → boolByte flag ≡ cond flag 1 0
 flag-byte true = refl
 flag-byte false = refl
-
--- ---- what an outcome comes to
-
-module _ (t : Table) (places : List ℕ) where
-  pub set-up-made : (came : State) (done : After) → done .verdict ≡ Accepted →
-      record { number = 0; answer = 0; listed = 0; places = places; after = machine t (done .state) } ≡ setUpShown (machine t came) places (afterIs t done)
-  unfolding setUpShown
-  set-up-made came done accepts = rw accepts
-
-  pub set-up-kept : (came : State) (done : After) {why : Refusal} {number : ℕ} → done .verdict ≡ Refused why → number ≡ numberOf why →
-      record { number = number; answer = 0; listed = 0; places = places; after = machine t came } ≡ setUpShown (machine t came) places (afterIs t done)
-  unfolding setUpShown
-  set-up-kept came done refuses numbers = rw (numbers, refuses)
-
-  pub call-so : (done : After) {number : ℕ} → number ≡ refusalIn (verdictIs (done .verdict)) →
-      record { number = number; answer = 0; listed = 0; places = places; after = machine t (done .state) } ≡ callShown places (afterIs t done)
-  unfolding callShown
-  call-so done numbers = rw numbers
-
-  pub move-so : (done : Stepped) {number answer : ℕ} → number ≡ refusalIn (replyIs (done .reply)) → answer ≡ saidIn (replyIs (done .reply)) →
-      record { number = number; answer = answer; listed = 0; places = places; after = machine t (done .state) } ≡ moveShown places (stepIs t done)
-  unfolding moveShown
-  move-so done numbers says = rw (numbers, says)
-
-  pub listing-so : (st : State) (done : Listed) {number count : ℕ} → number ≡ refusalIn (listedIs done) → count ≡ listedIn (listedIs done) →
-      record { number = number; answer = 0; listed = count; places = places; after = machine t st } ≡ listShown (machine t st) (left places (listedIs done))
-  unfolding listShown
-  listing-so st done numbers counts = rw (numbers, counts)
-
--- ---- which question is asked
-
--- a refused set-up has not touched the columns, so that the state that came is handed back with them
-handed-same : (a : Tests) (came came′ made : Machine) → ((number : ℕ) → a ≡ refused number → came ≡ came′) → handedBack came made a ≡ handedBack came′ made a
-handed-same (accepted done) came came′ made same = refl
-handed-same (refused number) came came′ made same = same number refl
-
-set-up-so : (m : Machine) (parties : ℕ) (places : List ℕ) (t : Table) (done : After) → afterIs t done ≡ setUpOf (m .table) parties →
-    setUpShown (machine t (m .state)) places (afterIs t done) ≡ setUpShown m places (setUpOf (m .table) parties)
-unfolding setUpShown
-set-up-so m parties places t done is =
-    let columns : (number : ℕ) → verdictIs (done .verdict) ≡ refused number → machine t (m .state) ≡ m =
-    λ number stops. ap (λ (t′ : Table). machine t′ (m .state))
-    (ap (λ (l : Left Machine (Unit {0})). l .memory .table) is
-    ∙ ap (λ (x : Machine). x .table) (refused-set-up-leaves (m .table) parties number (sym (ap (λ (l : Left Machine (Unit {0})). l .answer) is) ∙ stops))) in
-    ap (λ (after : Machine). record { number = refusalIn (verdictIs (done .verdict)); answer = 0; listed = 0; places = places; after = after })
-    (handed-same (verdictIs (done .verdict)) (machine t (m .state)) m (machine t (done .state)) columns)
-    ∙ ap (λ (l : Left Machine (Unit {0})). record { number = refusalIn (l .answer); answer = 0; listed = 0; places = places; after = handedBack m (l .memory) (l .answer) }) is
-
-module _ (bytes : List ℕ) (m : Machine) (places : List ℕ) where
-  pub asks-set-up : {what party : ℕ} {seen : Seen} (t : Table) (done : After) → what ≡ whatIn bytes → party ≡ partyIn bytes → what ≡ 0 →
-      afterIs t done ≡ setUpOf (m .table) party → seen ≡ setUpShown (machine t (m .state)) places (afterIs t done) →
-      seen ≡ seenBy (whatIn bytes) m (partyIn bytes) (codeIn bytes) (keyIn bytes) places
-  asks-set-up {party = party} t done named whose is leaves e = rw (← named, is, ← whose) (e ∙ set-up-so m party places t done leaves)
-
-  pub asks-call : {what party code key : ℕ} {seen : Seen} {left : Left Machine (Unit {0})} →
-      what ≡ whatIn bytes → party ≡ partyIn bytes → code ≡ codeIn bytes → key ≡ keyIn bytes → what ≡ 1 →
-      left ≡ callOf m party code key → seen ≡ callShown places left → seen ≡ seenBy (whatIn bytes) m (partyIn bytes) (codeIn bytes) (keyIn bytes) places
-  asks-call named whose codes keys is leaves e = rw (← named, is, ← whose, ← codes, ← keys) (e ∙ ap (callShown places) leaves)
-
-  pub asks-move : {what party : ℕ} {seen : Seen} {left : Left Machine Said} → what ≡ whatIn bytes → party ≡ partyIn bytes → what ≡ 2 →
-      left ≡ moveOf m party → seen ≡ moveShown places left → seen ≡ seenBy (whatIn bytes) m (partyIn bytes) (codeIn bytes) (keyIn bytes) places
-  asks-move named whose is leaves e = rw (← named, is, ← whose) (e ∙ ap (moveShown places) leaves)
-
-past-move : (what : ℕ) (m : Machine) (party code key : ℕ) (places : List ℕ) → 3 ≤ what → listShown m (listOf m places) ≡ seenBy what m party code key places
-past-move zero m party code key places past = absurd (omega arith)
-past-move (suc zero) m party code key places past = absurd (omega arith)
-past-move (suc (suc zero)) m party code key places past = absurd (omega arith)
-past-move (suc (suc (suc more))) m party code key places past = refl
-
-pub asks-listing : (bytes : List ℕ) (m : Machine) (places : List ℕ) {what : ℕ} {seen : Seen} {left : Left (List ℕ) ℕ} → what ≡ whatIn bytes → 3 ≤ what →
-    left ≡ listOf m places → seen ≡ listShown m left → seen ≡ seenBy (whatIn bytes) m (partyIn bytes) (codeIn bytes) (keyIn bytes) places
-asks-listing bytes m places named past leaves e =
-    e ∙ ap (listShown m) leaves ∙ past-move (whatIn bytes) m (partyIn bytes) (codeIn bytes) (keyIn bytes) places (rw named at past)
-
--- on the state and the places that came
-pub seen-told : (bytes : List ℕ) {t : Table} {st : State} {places : List ℕ} {seen : Seen} → t ≡ tableIn bytes → st ≡ stateIn bytes →
-    places ≡ unwritten (placesIn bytes) → seen ≡ seenBy (whatIn bytes) (machine t st) (partyIn bytes) (codeIn bytes) (keyIn bytes) places → seen ≡ seenOf bytes
-unfolding seenOf
-seen-told bytes tables states rooms e = rw (tables, states, rooms) at e
-
--- ---- the first entries of a column that is filled with one number
-
-pub part-filled : (value total n : ℕ) → n ≤ total → take n (replicate total value) ≡ replicate n value
-part-filled value total zero h = refl
-part-filled value zero (suc n) h = absurd (not-suc-le-zero h)
-part-filled value (suc total) (suc n) h = ap {B = List ℕ} (λ (l : List ℕ). value ∷ l) (part-filled value total n (le-of-suc-le-suc h))
-
-pub part-long : (value total n : ℕ) → n ≤ total → n ≡ length (take n (replicate total value))
-part-long value total n h = sym (ap length (part-filled value total n h) ∙ length-replicate n value)
-
--- ---- bytes that fit, and bytes that do not
-
-pub probe-fits : (bytes : List ℕ) → fits bytes ≡ true → seenBytes (seenOf bytes) ≡ probeOf bytes
-unfolding probeOf
-probe-fits bytes fit = rw fit
-
-pub probe-none : (bytes : List ℕ) → fits bytes ≡ false → 255 ∷ [] ≡ probeOf bytes
-unfolding probeOf
-probe-none bytes none = rw none

@@ -1,7 +1,6 @@
--- Why the probe reads, asks and writes as promised, and that its contract leaves no choice.
-pub mod Laws
+-- Why a question is read and written as promised, and that the contracts leave no choice.
 pub mod Fitting
+pub mod Laws
 pub mod Written
-pub mod Refused
-pub mod Room
+pub mod Long
 pub mod Determined

@@ -20,6 +20,7 @@ use Rattle.packed.specs.Records.{callNumber, placed, placeBytes, recordA
 use Rattle.packed.specs.Layout.{kindsIn, keysIn, nextsIn, backsIn, keysFrom, nextsFrom, backsFrom, endOf, tableIn, stateIn, machineIn, stateBytes, machineBytes}
 use Rattle.packed.specs.Claims.{NumbersAreFields, ReadIsWritten}
 use Rattle.packed.proofs.Fitting.{Fit, fit-of}
+use Rattle.packed.proofs.Laws.{one-byte}
 
 -- from one place to another the bytes are these
 record Stands (bytes : List ℕ) (at : ℕ) (these : List ℕ) (to : ℕ) : Type 0 where
@@ -38,10 +39,6 @@ moved : {bytes : List ℕ} (g : ℕ → List ℕ) {at at′ to to′ : ℕ} → 
 moved g from to stands = rw (← from, ← to) stands
 
 -- ---- numbers
-
-low-one : (a : ℕ) → a < 256 → a ∷ [] ≡ low 1 a
-unfolding bytesIn
-low-one a small = let same : a / 1 % 256 ≡ a = omega arith in rw same
 
 low-two : (a b : ℕ) → a < 256 → b < 256 → a ∷ b ∷ [] ≡ low 2 (a + 256 * b)
 unfolding bytesIn
@@ -195,7 +192,7 @@ module _ (bytes : List ℕ) (all : Bytes bytes) (fit : Fit bytes) where
   machine-stands =
       let whole = fit .long in
       let kinds = rows bytes (low 1) (byteAt bytes) 1 (kindsIn bytes) 363
-      (λ i below. named (low-one (byteAt bytes (363 + 1 * i)) (all (363 + 1 * i))) (one bytes (363 + 1 * i) (363 + 1 * i + 1) refl (omega arith))) in
+      (λ i below. named (sym (one-byte (byteAt bytes (363 + 1 * i)) (all (363 + 1 * i)))) (one bytes (363 + 1 * i) (363 + 1 * i + 1) refl (omega arith))) in
       let keys = rows bytes (low 4) (fourAt bytes) 4 (keysIn bytes) (keysFrom bytes)
       (λ i below. four bytes all (keysFrom bytes + 4 * i) (keysFrom bytes + 4 * i + 4) refl (omega arith)) in
       let nexts = rows bytes (low 2) (twoAt bytes) 2 (nextsIn bytes) (nextsFrom bytes)

@@ -1,15 +1,14 @@
--- What is proved of the probe, beside its contract.
+-- What is proved of the layout, beside the contracts.
 use mathlib.Core.Path.{_≡_}
 use mathlib.Core.Bool.{true}
-use mathlib.Core.List.{List, _∷_, _++_}
-use Prim.Native.Nat.{ℕ, suc, _+_, _≤_}
+use mathlib.Core.List.{List}
+use Prim.Native.Nat.{ℕ, _+_, _≤_}
 use lib.ListN.{length, drop}
 use Rattle.field.specs.declared.ByteOrder.the-variants.{LowFirst}
 use Rattle.field.specs.Layout.{Bytes}
 use Rattle.field.specs.Field.{fieldAt}
-use Rattle.packed.specs.Bytes.{twoAt, fourAt, lows}
-use Rattle.packed.specs.Layout.{placesIn, machineIn, fits, machineBytes}
-use Rattle.packed.specs.Probe.{unwritten, seenOf, probeOf}
+use Rattle.packed.specs.Bytes.{twoAt, fourAt}
+use Rattle.packed.specs.Layout.{machineIn, fits, machineBytes}
 
 -- the numbers are those of the one number layout of the project, low byte first
 abbrev pub NumbersAreFields : Type 0
@@ -21,13 +20,3 @@ NumbersAreFields =
 -- nothing is lost by reading: what fits is written back, from byte 15 on, as it came
 abbrev pub ReadIsWritten : Type 0
 ReadIsWritten = (bytes : List ℕ) → Bytes bytes → fits bytes ≡ true → machineBytes (machineIn bytes) ≡ drop 15 bytes
-
--- a refusal shows its number, no answer, no keys, the places as they were, and all the bytes that came
-abbrev pub RefusedAsFound : Type 0
-RefusedAsFound =
-    (bytes : List ℕ) (number : ℕ) → Bytes bytes → fits bytes ≡ true → seenOf bytes .number ≡ suc number →
-    probeOf bytes ≡ suc number ∷ 0 ∷ 0 ∷ 0 ∷ lows 4 (unwritten (placesIn bytes)) ++ drop 15 bytes
-
--- 54,952 bytes are room enough for the output, whatever goes in
-abbrev pub OutputFits : Type 0
-OutputFits = (bytes : List ℕ) → length (probeOf bytes) ≤ 54952

@@ -1,7 +1,6 @@
--- The layout of a question to the probe: what stands at which byte, what fits, and how a state is written back.
-use mathlib.Core.Path.{_≡_}
+-- The layout of a question: what stands at which byte, what fits, how a table is read, and how a state is written back.
 use mathlib.Core.List.{List, _++_}
-use mathlib.Core.Bool.{Bool, _&&_}
+use mathlib.Core.Bool.{Bool, cond, _&&_}
 use Prim.Native.Nat.{ℕ, _+_, _*_}
 use lib.ListN.{length}
 use lib.Dec.{eqb, ltb, leb}
@@ -9,6 +8,7 @@ use Rattle.columns.specs.Every.{every}
 use Rattle.rows.specs.Table.{Table, tab}
 use Rattle.party.specs.declared.State.{State}
 use Rattle.bare.specs.Bare.{Machine, machine}
+use Rattle.packed.specs.declared.Question.{Question}
 use Rattle.packed.specs.Bytes.{byteAt, twoAt, fourAt, each, low, lows}
 use Rattle.packed.specs.Records.{recordAt, recordFits, recordsBytes}
 
@@ -45,6 +45,20 @@ nextsIn bytes = twoAt bytes 19
 abbrev pub backsIn : List ℕ → ℕ
 backsIn bytes = twoAt bytes 21
 
+-- the question: all of these numbers
+abbrev pub questionIn : List ℕ → Question
+questionIn bytes = record {
+  what = whatIn bytes;
+  party = partyIn bytes;
+  code = codeIn bytes;
+  key = keyIn bytes;
+  places = placesIn bytes;
+  kinds = kindsIn bytes;
+  keys = keysIn bytes;
+  nexts = nextsIn bytes;
+  backs = backsIn bytes;
+}
+
 abbrev pub keysFrom : List ℕ → ℕ
 keysFrom bytes = 363 + kindsIn bytes
 
@@ -61,6 +75,18 @@ unfoldable pub tableIn : List ℕ → Table
 tableIn bytes =
     tab (each (byteAt bytes) 1 (kindsIn bytes) 363) (each (fourAt bytes) 4 (keysIn bytes) (keysFrom bytes))
     (each (twoAt bytes) 2 (nextsIn bytes) (nextsFrom bytes)) (each (twoAt bytes) 2 (backsIn bytes) (backsFrom bytes))
+
+-- the lengths of these columns are those of the layout
+unfoldable pub roomsFit : List ℕ → Table → Bool
+roomsFit bytes t =
+    eqb (length (t .kind)) (kindsIn bytes)
+    && eqb (length (t .key)) (keysIn bytes)
+    && eqb (length (t .next)) (nextsIn bytes)
+    && eqb (length (t .back)) (backsIn bytes)
+
+-- a table is read into columns of its lengths, and others stay
+unfoldable pub tableInto : List ℕ → Table → Table
+tableInto bytes t = cond (roomsFit bytes t) (tableIn bytes) t
 
 -- ---- the state; P and T have four bytes each, of which one and two may differ from 0
 
@@ -102,10 +128,3 @@ machineBytes m =
     low 2 (length (t .kind)) ++ low 2 (length (t .key)) ++ low 2 (length (t .next)) ++ low 2 (length (t .back))
     ++ stateBytes (m .state)
     ++ lows 1 (t .kind) ++ lows 4 (t .key) ++ lows 2 (t .next) ++ lows 2 (t .back)
-
--- ---- columns to read a table into: as long as the layout says
-pub record Rooms (bytes kind key next back : List ℕ) : Type 0 where
-  pub kinds : length kind ≡ kindsIn bytes
-  pub keys : length key ≡ keysIn bytes
-  pub nexts : length next ≡ nextsIn bytes
-  pub backs : length back ≡ backsIn bytes

@@ -1,6 +1,5 @@
--- What goes into the probe, what it is asked, and what comes out, byte by byte.
+-- A question in bytes: numbers, party records, what stands at which byte, and what is proved of it.
 pub mod Bytes
 pub mod Records
 pub mod Layout
-pub mod Probe
 pub mod Claims

@@ -4,13 +4,14 @@ use party::Party;
 use party::Place;
 use party::State;
 ghost use mathlib.Core.Path.{_≡_};
+ghost use mathlib.Core.Bool.{true};
 ghost use Prim.Native.Nat.{_+_, _*_, _<_};
 ghost use lib.ListN.{length};
 ghost use Rattle.columns.specs.Every.{every};
 ghost use Rattle.rows.specs.Table.{tab};
 ghost use Rattle.packed.specs.Bytes.{byteAt, twoAt, fourAt, each};
 ghost use Rattle.packed.specs.Records.{placed, recordAt, recordFits};
-ghost use Rattle.packed.specs.Layout.{tableIn, stateIn, fits, endOf, Rooms};
+ghost use Rattle.packed.specs.Layout.{tableIn, roomsFit, tableInto, stateIn, fits, endOf};
 
 // The byte at a place; past the end, 0.
 pub(crate) fn byte_at(bytes: &[u8], at: usize) -> u8
@@ -103,7 +104,7 @@ fn records_fit(bytes: &[u8]) -> bool
 }
 
 // The state: the sixteen party records and the numbers before them.
-pub(crate) fn state_in(bytes: &[u8]) -> State
+pub fn state_in(bytes: &[u8]) -> State
     ensures { λ r. ⌜ r ≡ stateIn (now (bytes .entry)) ⌝ }
 {
     let none = Party::blank();
@@ -160,14 +161,8 @@ fn read_u32s(bytes: &[u8], from: usize, column: &mut [u32])
 }
 
 // Reads the table into columns of its lengths.
-pub(crate) fn read_table(
-    bytes: &[u8],
-    kind: &mut [u8],
-    key: &mut [u32],
-    next: &mut [u16],
-    back: &mut [u16],
-)
-    requires { ⌜ Rooms (now bytes) (now kind) (now key) (now next) (now back) ⌝ }
+fn read_columns(bytes: &[u8], kind: &mut [u8], key: &mut [u32], next: &mut [u16], back: &mut [u16])
+    requires { ⌜ roomsFit (now bytes) (tab (now kind) (now key) (now next) (now back)) ≡ true ⌝ }
     ensures { λ r. ⌜ tab (now (kind .exit)) (now (key .exit)) (now (next .exit)) (now (back .exit)) ≡ tableIn (now (bytes .entry)) ⌝ }
 {
     let keys_from = 363 + two_at(bytes, 15) as usize;
@@ -177,6 +172,25 @@ pub(crate) fn read_table(
     read_u32s(bytes, keys_from, key);
     read_u16s(bytes, nexts_from, next);
     read_u16s(bytes, backs_from, back);
+}
+
+// Reads the table into columns that have its lengths; others stay.
+pub fn read_table(
+    bytes: &[u8],
+    kind: &mut [u8],
+    key: &mut [u32],
+    next: &mut [u16],
+    back: &mut [u16],
+)
+    ensures { λ r. ⌜ tab (now (kind .exit)) (now (key .exit)) (now (next .exit)) (now (back .exit)) ≡ tableInto (now (bytes .entry)) (tab (now (kind .entry)) (now (key .entry)) (now (next .entry)) (now (back .entry))) ⌝ }
+{
+    let kinds = kind.len() == two_at(bytes, 15) as usize;
+    let keys = key.len() == two_at(bytes, 17) as usize;
+    let nexts = next.len() == two_at(bytes, 19) as usize;
+    let backs = back.len() == two_at(bytes, 21) as usize;
+    if kinds & keys & nexts & backs {
+        read_columns(bytes, kind, key, next, back);
+    }
 }
 
 // The length that the lengths of the columns ask for.
@@ -191,7 +205,7 @@ fn end_of(bytes: &[u8]) -> usize
 }
 
 // Whether the bytes fit the layout.
-pub(crate) fn fits(bytes: &[u8]) -> bool
+pub fn fits(bytes: &[u8]) -> bool
     ensures { λ r. ⌜ r ≡ fits (now (bytes .entry)) ⌝ }
 {
     let places = two_at(bytes, 13) <= 4200;

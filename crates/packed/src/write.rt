@@ -16,7 +16,7 @@ ghost use Rattle.packed.specs.Records.{spelledBytes, callNumber, placeBy
 ghost use Rattle.packed.specs.Layout.{stateBytes, machineBytes};
 
 // Two bytes of a number, the low byte first.
-pub(crate) fn put_two(out: &mut [u8], to: usize, number: usize) -> usize
+pub fn put_two(out: &mut [u8], to: usize, number: usize) -> usize
     ensures { λ r. ⌜ Wrote (page (now (out .entry)) to) (low 2 number) (page (now (out .exit)) r) ⌝ }
 {
     let on = put_byte(out, to, (number % 256) as u8);
@@ -52,7 +52,7 @@ fn put_u16s(out: &mut [u8], to: usize, column: &[u16]) -> usize
 }
 
 // Four bytes for each entry of a column.
-pub(crate) fn put_u32s(out: &mut [u8], to: usize, column: &[u32]) -> usize
+pub fn put_u32s(out: &mut [u8], to: usize, column: &[u32]) -> usize
     ensures { λ r. ⌜ Wrote (page (now (out .entry)) to) (lows 4 (now (column .entry))) (page (now (out .exit)) r) ⌝ }
 {
     let mut i = 0;
@@ -169,7 +169,7 @@ fn put_state(out: &mut [u8], to: usize, state: State) -> usize
 }
 
 // The lengths of the columns, the state, the columns.
-pub(crate) fn put_machine(
+pub fn put_machine(
     out: &mut [u8],
     to: usize,
     kind: &[u8],

@@ -1,7 +1,7 @@
 // The probe program: reads a question on standard input and writes all that came of it to standard output.
 use libc::STDIN_FILENO;
 use libc::STDOUT_FILENO;
-use packed::probe;
+use probed::probe;
 ghost use mathlib.Core.Path.{_≡_};
 ghost use lib.ListN.{length};
 
@@ -12,7 +12,7 @@ fn text_room() -> [u8; 65537]
     [0; 65537]
 }
 
-// Room for the output of every question (`OutputFits` of `packed`).
+// Room for the output of every question (`OutputFits` of `probed`).
 fn out_room() -> [u8; 54952]
     ensures { λ r. ⌜ 54952 ≡ length r ⌝ }
 {

@@ -2,26 +2,20 @@
 -- Assumes nothing.
 use mathlib.Core.Path.{_≡_, refl, ap, sym, _∙_}
 use mathlib.Core.Bool.{Bool, true, false, not}
-use mathlib.Core.List.{List, [], _∷_}
+use mathlib.Core.List.{List}
 use Prim.Native.Nat.{ℕ, zero, suc, _+_, _*_, _≤_}
-use native.Mathlib.Nat.{mul-zero, mul-suc}
 use native.Mathlib.Omega.{arith}
 use lib.ListN.{length, length-append, length-drop, length-set, length-replicate}
 use lib.Dec.{ltb}
 use borrow.Author.Tests.{ltb-false}
 use Rattle.refusal.specs.Answer.{accepted, refused, Left, left, Tests, passed, refusing, leaving}
 use Rattle.refusal.proofs.Laws.{past-test}
-use Rattle.field.specs.declared.ByteOrder.the-variants.{LowFirst}
-use Rattle.field.proofs.Numbers.{long-bytes}
 use Rattle.rows.specs.declared.Write.{Write}
 use Rattle.rows.specs.declared.Write.the-variants.{Keep, Link, Splice, Item}
 use Rattle.rows.specs.Table.{Table}
 use Rattle.rows.specs.Writes.{written}
 use Rattle.party.specs.declared.Access.{Access}
 use Rattle.party.specs.declared.Access.the-variants.{None, Read, Won, Lost}
-use Rattle.party.specs.declared.Party.{Party}
-use Rattle.party.specs.declared.Place.{Place}
-use Rattle.party.specs.declared.Place.the-variants.{Idle, Walk, Skip, AddSwap, Mark, Reread, Clean, Back, Look}
 use Rattle.party.specs.declared.State.{State}
 use Rattle.party.specs.Party.{tallied}
 use Rattle.moves.specs.Moves.{placeOf}
@@ -30,86 +24,15 @@ use Rattle.form.specs.Form.{rowsIn}
 use Rattle.fresh.specs.Fresh.{freshTable, restingState}
 use Rattle.list.specs.Engine.{setUpTests, setUpOf, callNamed, callTests, callOf, moveTests, moveOf, accepting, chainRises, liveKeys, listTests, placesWith, listOf}
 use Rattle.list.proofs.Laws.{past-form, table-fits, past-set-up}
-use Rattle.packed.specs.Bytes.{low, oneByOne, byteAt, twoAt, fourAt}
-use Rattle.packed.specs.Records.{placeBytes, recordAt, recordBytes}
-use Rattle.packed.specs.Layout.{whatIn, partyIn, codeIn, keyIn, placesIn, kindsIn, keysIn, nextsIn, backsIn, keysFrom, nextsFrom, backsFrom, tableIn, stateIn, machineIn, fits, stateBytes, machineBytes}
-use Rattle.packed.specs.Probe.{Seen, unwritten, handedBack, setUpShown, callShown, moveShown, listShown, seenBy, seenOf, seenBytes, probeOf}
-use Rattle.packed.specs.Claims.{OutputFits}
+use Rattle.packed.specs.Bytes.{low, byteAt, twoAt, fourAt}
+use Rattle.packed.specs.Records.{recordAt}
+use Rattle.packed.specs.Layout.{whatIn, partyIn, codeIn, keyIn, placesIn, kindsIn, keysIn, nextsIn, backsIn, keysFrom, nextsFrom, backsFrom, tableIn, stateIn, machineIn, fits}
+use Rattle.probed.specs.Probe.{Seen, unwritten, handedBack, setUpShown, callShown, moveShown, listShown, seenBy, seenOf, seenBytes, probeOf}
+use Rattle.probed.specs.Claims.{OutputFits}
 use Rattle.packed.proofs.Fitting.{fit-of}
-use Rattle.packed.proofs.Laws.{probe-fits, probe-none}
+use Rattle.probed.proofs.Laws.{probe-fits, probe-none}
 use Rattle.packed.proofs.Written.{long-each}
-
--- ---- lengths of what is written
-
-long-row : {A : Type 0} (bytesOf : A → List ℕ) (width : ℕ) → ((a : A) → length (bytesOf a) ≡ width) → (l : List A) →
-    length (oneByOne bytesOf l) ≡ width * length l
-unfolding oneByOne
-long-row bytesOf width each [] = sym (mul-zero width)
-long-row bytesOf width each (first ∷ rest) =
-    let more = long-row bytesOf width each rest in
-    let here = each first in
-    simp length-append (omega (arith, mul-suc width (length rest)))
-
-long-low : (width number : ℕ) → length (low width number) ≡ width
-long-low width number = long-bytes LowFirst width number
-
-long-place : (place : Place) → length (placeBytes place) ≡ 6
-long-place Idle = ap (λ (n : ℕ). suc (suc n)) (long-low 4 0)
-long-place (Walk call key) = ap (λ (n : ℕ). suc (suc n)) (long-low 4 key)
-long-place (Skip call key) = ap (λ (n : ℕ). suc (suc n)) (long-low 4 key)
-long-place (AddSwap call key) = ap (λ (n : ℕ). suc (suc n)) (long-low 4 key)
-long-place (Mark call key) = ap (λ (n : ℕ). suc (suc n)) (long-low 4 key)
-long-place (Reread call key) = ap (λ (n : ℕ). suc (suc n)) (long-low 4 key)
-long-place (Clean call key) = ap (λ (n : ℕ). suc (suc n)) (long-low 4 key)
-long-place (Back call key) = ap (λ (n : ℕ). suc (suc n)) (long-low 4 key)
-long-place (Look call key) = ap (λ (n : ℕ). suc (suc n)) (long-low 4 key)
-
-long-record : (q : Party) → length (recordBytes q) ≡ 20
-unfolding recordBytes
-long-record q =
-    simp length-append
-    (omega (
-      arith,
-      long-place (q .place),
-      long-low 2 (q .p),
-      long-low 2 (q .n),
-      long-low 2 (q .c),
-      long-low 2 (q .s),
-      long-low 2 (q .r),
-      long-low 2 (q .own),
-    ))
-
-long-state : (st : State) → length (stateBytes st) ≡ 20 + 20 * length (st .parties)
-unfolding stateBytes
-long-state st =
-    simp length-append
-    (omega (
-      arith,
-      long-low 4 (st .count),
-      long-low 4 (st .taken),
-      long-low 4 (st .moves),
-      long-low 4 (st .won),
-      long-low 4 (st .lost),
-      long-row recordBytes 20 long-record (st .parties),
-    ))
-
-long-machine : (m : Machine) → length (machineBytes m) ≡
-    28 + 20 * length (m .state .parties) + length (m .table .kind) + 4 * length (m .table .key) + 2 * length (m .table .next) + 2 * length (m .table .back)
-unfolding machineBytes
-long-machine m =
-    simp length-append
-    (omega (
-      arith,
-      long-low 2 (length (m .table .kind)),
-      long-low 2 (length (m .table .key)),
-      long-low 2 (length (m .table .next)),
-      long-low 2 (length (m .table .back)),
-      long-state (m .state),
-      long-row (low 1) 1 (long-low 1) (m .table .kind),
-      long-row (low 4) 4 (long-low 4) (m .table .key),
-      long-row (low 2) 2 (long-low 2) (m .table .next),
-      long-row (low 2) 2 (long-low 2) (m .table .back),
-    ))
+use Rattle.packed.proofs.Long.{long-low, long-row, long-machine}
 
 -- ---- lengths are kept
 

@@ -9,12 +9,12 @@ use Rattle.field.specs.Layout.{bytesIn}
 use Rattle.bare.specs.Bare.{Machine}
 use Rattle.list.specs.Engine.{setUpOf, callOf, moveOf, listOf}
 use Rattle.list.proofs.Promises.{refused-call-leaves, refused-move-leaves, refused-listing-leaves}
 use Rattle.packed.specs.Bytes.{lows}
 use Rattle.packed.specs.Layout.{whatIn, partyIn, codeIn, keyIn, placesIn, machineIn}
-use Rattle.packed.specs.Probe.{Seen, unwritten, refusalIn, handedBack, setUpShown, callShown, moveShown, listShown, seenBy, seenOf, seenBytes}
-use Rattle.packed.specs.Claims.{RefusedAsFound}
-use Rattle.packed.proofs.Laws.{probe-fits}
+use Rattle.probed.specs.Probe.{Seen, unwritten, refusalIn, handedBack, setUpShown, callShown, moveShown, listShown, seenBy, seenOf, seenBytes}
+use Rattle.probed.specs.Claims.{RefusedAsFound}
+use Rattle.probed.proofs.Laws.{probe-fits}
 use Rattle.packed.proofs.Written.{read-is-written}
 
 -- a number that is not 0 is a refusal's
 refused-by : {A : Type 0} (answer : Answer A) (number : ℕ) → refusalIn answer ≡ suc number → answer ≡ refused (suc number)

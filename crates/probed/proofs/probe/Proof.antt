@@ -3,10 +3,10 @@
 use mathlib.Core.Path.{sym, _∙_}
 use borrow.Author.Tests.{not-true, not-false}
 use Rattle.page.proofs.Laws.{told}
-use Rattle.packed.proofs.Laws.{probe-fits, probe-none}
+use Rattle.probed.proofs.Laws.{probe-fits, probe-none}
 use borrow.Author.Needs.{needs}
-use Rattle.packed.proofs.probe.Statement.{statement}
-use Rattle.packed.proofs.probe.Tie as tie
+use Rattle.probed.proofs.probe.Statement.{statement}
+use Rattle.probed.proofs.probe.Tie as tie
 
 returns : tie.Need-returns
 returns c =

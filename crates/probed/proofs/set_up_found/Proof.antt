@@ -1,9 +1,9 @@
 -- The new state, or the one that came.
 -- Assumes nothing.
-use Rattle.packed.proofs.Laws.{set-up-made, set-up-kept}
+use Rattle.probed.proofs.Laws.{set-up-made, set-up-kept}
 use borrow.Author.Needs.{needs}
-use Rattle.packed.proofs.set_up_found.Statement.{statement}
-use Rattle.packed.proofs.set_up_found.Tie as tie
+use Rattle.probed.proofs.set_up_found.Statement.{statement}
+use Rattle.probed.proofs.set_up_found.Tie as tie
 
 returns : tie.Need-returns
 returns c =

@@ -11,9 +11,9 @@ use Rattle.moves.specs.declared.Said.the-variants.{Nothing, Yes, No}
 use Rattle.rows.specs.Table.{Table}
 use Rattle.bare.specs.Bare.{Machine, machine}
 use Rattle.list.specs.Engine.{setUpOf, callOf, moveOf, listOf}
-use Rattle.packed.specs.declared.Found.{Found}
 use Rattle.packed.specs.Bytes.{low, lows}
 use Rattle.packed.specs.Layout.{whatIn, partyIn, codeIn, keyIn, placesIn, machineIn, fits, machineBytes}
+use Rattle.probed.specs.declared.Found.{Found}
 
 -- what the probe shows: a refusal's number or 0, the answer, how many keys were listed, the places, and the state
 pub record Seen : Type 0 where

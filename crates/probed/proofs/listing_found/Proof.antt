@@ -1,9 +1,9 @@
 -- The number of a refusal, how many keys, and the state.
 -- Assumes nothing.
-use Rattle.packed.proofs.Laws.{listing-so}
+use Rattle.probed.proofs.Laws.{listing-so}
 use borrow.Author.Needs.{needs}
-use Rattle.packed.proofs.listing_found.Statement.{statement}
-use Rattle.packed.proofs.listing_found.Tie as tie
+use Rattle.probed.proofs.listing_found.Statement.{statement}
+use Rattle.probed.proofs.listing_found.Tie as tie
 
 returns : tie.Need-returns
 returns c =

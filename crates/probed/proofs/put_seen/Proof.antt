@@ -2,10 +2,10 @@
 -- Assumes nothing.
 use mathlib.Core.Path.{_∙_}
 use Rattle.page.proofs.Laws.{on}
-use Rattle.packed.specs.Probe.{seenBytes}
+use Rattle.probed.specs.Probe.{seenBytes}
 use borrow.Author.Needs.{needs}
-use Rattle.packed.proofs.put_seen.Statement.{statement}
-use Rattle.packed.proofs.put_seen.Tie as tie
+use Rattle.probed.proofs.put_seen.Statement.{statement}
+use Rattle.probed.proofs.put_seen.Tie as tie
 
 same-length : tie.Need-same-length
 same-length c =

@@ -1,9 +1,9 @@
 -- The number of a refusal, and the state.
 -- Assumes nothing.
-use Rattle.packed.proofs.Laws.{call-so}
+use Rattle.probed.proofs.Laws.{call-so}
 use borrow.Author.Needs.{needs}
-use Rattle.packed.proofs.call_found.Statement.{statement}
-use Rattle.packed.proofs.call_found.Tie as tie
+use Rattle.probed.proofs.call_found.Statement.{statement}
+use Rattle.probed.proofs.call_found.Tie as tie
 
 returns : tie.Need-returns
 returns c =

@@ -1,9 +1,9 @@
 -- The number of a refusal, what is said, and the state.
 -- Assumes nothing.
-use Rattle.packed.proofs.Laws.{move-so}
+use Rattle.probed.proofs.Laws.{move-so}
 use borrow.Author.Needs.{needs}
-use Rattle.packed.proofs.move_found.Statement.{statement}
-use Rattle.packed.proofs.move_found.Tie as tie
+use Rattle.probed.proofs.move_found.Statement.{statement}
+use Rattle.probed.proofs.move_found.Tie as tie
 
 returns : tie.Need-returns
 returns c =
