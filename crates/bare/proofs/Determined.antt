@@ -3,7 +3,7 @@
 use Rattle.outcome.specs.Outcome.{OneOutcome}
 use Rattle.outcome.proofs.Laws.{by-equation}
 use Rattle.rows.specs.Table.{tab}
-use Rattle.bare.specs.Bare.{machine, stepped}
+use Rattle.bare.specs.Bare.{machine, bareDone}
 use Rattle.bare.proofs.call.Reads as call
 use Rattle.bare.proofs.step.Reads as step
 
@@ -14,5 +14,5 @@ call-fixed κs given answer₁ answer₂ exit₁ exit₂ = by-equation
 
 -- the columns and the state after a move, and what is said
 pub step-fixed : OneOutcome step.Post
-    (λ κs answer exit. stepped (machine (tab (exit .0 .now) (exit .1 .0 .now) (exit .1 .1 .0 .now) (exit .1 .1 .1 .0 .now)) (answer .state)) (answer .said))
+    (λ κs answer exit. bareDone (machine (tab (exit .0 .now) (exit .1 .0 .now) (exit .1 .1 .0 .now) (exit .1 .1 .1 .0 .now)) (answer .state)) (answer .said))
 step-fixed κs given answer₁ answer₂ exit₁ exit₂ = by-equation

@@ -11,7 +11,7 @@ use Rattle.rows.specs.Writes.{written}
 use Rattle.moves.specs.declared.Moved.{Moved}
 use Rattle.moves.specs.Moves.{placeOf}
 use Rattle.bare.specs.declared.Begun.{Begun}
-use Rattle.bare.specs.Bare.{machine, begunOf, started, bareCallOf, stepped, settled, carried, bareMoveOf}
+use Rattle.bare.specs.Bare.{machine, begunOf, started, bareCallOf, bareDone, settled, carried, bareMoveOf}
 
 module _ (t : Table) (st : State) (i : ℕ) where
   pub a-call : (call : Call) (key : ℕ) {t′ : Table} {st′ placed : State} {q : Party} {begun : Begun} →
@@ -24,7 +24,7 @@ module _ (t : Table) (st : State) (i : ℕ) where
 
   pub a-move : {t′ : Table} {st′ : State} {q : Party} {moved : Moved} →
       q ≡ partyAt st i → moved ≡ placeOf (q .place) t q → t′ ≡ written (moved .write) t → st′ ≡ settled st i moved →
-      stepped (machine t′ st′) (moved .said) ≡ bareMoveOf (machine t st) i
+      bareDone (machine t′ st′) (moved .said) ≡ bareMoveOf (machine t st) i
   unfolding bareMoveOf
   a-move is moves writes settles =
       rw (writes, settles) (ap (carried (machine t st) i) (moves ∙ ap (λ (q : Party). placeOf (q .place) t q) is))

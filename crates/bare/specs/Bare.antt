@@ -55,19 +55,19 @@ bareCallOf m i call key = started m i (begunOf (m .state) (partyOf m i) call key
 -- ---- a move
 
 -- what a move leaves, and what it says
-pub record Stepped : Type 0 where
+pub record BareDone : Type 0 where
   pub after : Machine
   pub said : Said
 
-abbrev pub stepped : Machine → Said → Stepped
-stepped after said = record { after = after; said = said }
+abbrev pub bareDone : Machine → Said → BareDone
+bareDone after said = record { after = after; said = said }
 
 -- what the place's definition gives, put into the table, the party's record and the tallies
 abbrev pub settled : State → ℕ → Moved → State
 settled st i moved = tallied (moved .access) (withParty st i (moved .party))
 
-abbrev pub carried : Machine → ℕ → Moved → Stepped
-carried m i moved = stepped (machine (written (moved .write) (m .table)) (settled (m .state) i moved)) (moved .said)
+abbrev pub carried : Machine → ℕ → Moved → BareDone
+carried m i moved = bareDone (machine (written (moved .write) (m .table)) (settled (m .state) i moved)) (moved .said)
 
-unfoldable pub bareMoveOf : Machine → ℕ → Stepped
+unfoldable pub bareMoveOf : Machine → ℕ → BareDone
 bareMoveOf m i = carried m i (placeOf (partyOf m i .place) (m .table) (partyOf m i))

@@ -11,7 +11,7 @@ use rows::Write;
 use rows::apply;
 ghost use mathlib.Core.Path.{_≡_};
 ghost use Rattle.rows.specs.Table.{tab};
-ghost use Rattle.bare.specs.Bare.{machine, ownRow, takenThen, startOf, begunOf, bareCallOf, stepped, settled, bareMoveOf};
+ghost use Rattle.bare.specs.Bare.{machine, ownRow, takenThen, startOf, begunOf, bareCallOf, bareDone, settled, bareMoveOf};
 
 // What a call comes to: the party after it, what is written, how many rows are then taken.
 struct Begun {
@@ -114,7 +114,7 @@ pub fn step(
     state: State,
     number: u32,
 ) -> Done
-    ensures { λ r. ⌜ stepped (machine (tab (now (kind .exit)) (now (key .exit)) (now (next .exit)) (now (back .exit))) (r .state)) (r .said) ≡ bareMoveOf (machine (tab (now (kind .entry)) (now (key .entry)) (now (next .entry)) (now (back .entry))) state) number ⌝ }
+    ensures { λ r. ⌜ bareDone (machine (tab (now (kind .exit)) (now (key .exit)) (now (next .exit)) (now (back .exit))) (r .state)) (r .said) ≡ bareMoveOf (machine (tab (now (kind .entry)) (now (key .entry)) (now (next .entry)) (now (back .entry))) state) number ⌝ }
 {
     let moved = place_move(kind, key, next, back, state.party_at(number));
     let write = moved.write;

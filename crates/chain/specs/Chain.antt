@@ -14,9 +14,9 @@ behind t row = cond (isSplice t (nextAt t row)) (nextAt t (nextAt t row)) (nextA
 abbrev pub isLive : Table → ℕ → Bool
 isLive t row = isItem t row && not (isSplice t (nextAt t row))
 
--- a row counts as one key if its key is live
+-- what counts as one if a test holds
 abbrev pub oneIf : Bool → ℕ
-oneIf live = cond live 1 0
+oneIf holds = cond holds 1 0
 
 -- each row is below the one behind it, from this row on to row 2; fuel bounds the walk, and `FuelNeverDecides` of `list` says that it never shows
 unfoldable pub rises : Table → (fuel row : ℕ) → Bool

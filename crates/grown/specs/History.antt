@@ -28,7 +28,7 @@ isAccepted (refused number) = false
 abbrev pub accepts : Machine → Event → Bool
 accepts m event = keyFits event && isAccepted (turnOf m event .answer)
 
--- nor any event of a history
+-- it accepts every event of a history
 unfoldable pub acceptsAll : Machine → History → Bool
 acceptsAll m [] = true
 acceptsAll m (first ∷ rest) = accepts m first && acceptsAll (turnOf m first .memory) rest

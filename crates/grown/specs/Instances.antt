@@ -7,7 +7,7 @@ use Rattle.moves.specs.declared.Said.the-variants.{No}
 use Rattle.rows.specs.Table.{nextAt}
 use Rattle.list.specs.Engine.{liveKeys, chainRises}
 use Rattle.list.specs.Run.{calls, moves}
-use Rattle.list.specs.Examples.{bare}
+use Rattle.list.specs.Examples.{zeroTable}
 use Rattle.world.specs.Keys.{has}
 use Rattle.grown.specs.History.{History, start, Grows, grown}
 use Rattle.grown.specs.Counts.{Counts, tally, withKeys}
@@ -21,8 +21,8 @@ collision =
 
 -- 2 calls, 10 moves, 2 swaps won, 1 lost; both won swaps are add swaps; 2 keys in, none out
 pub record RunOf01 : Type 0 where
-  pub grows : Grows (bare 16) 2 collision
-  pub counts : countsOf (start (bare 16) 2) collision ≡ withKeys 2 0 (tally 2 10 2 1 2 0)
+  pub grows : Grows (zeroTable 16) 2 collision
+  pub counts : countsOf (start (zeroTable 16) 2) collision ≡ withKeys 2 0 (tally 2 10 2 1 2 0)
 
 -- three parties stand at the same swap: one wins, two lose
 abbrev pub race : History
@@ -32,9 +32,9 @@ race =
 
 -- lost = (P − 1) × won
 pub record MostLost : Type 0 where
-  pub grows : Grows (bare 16) 3 race
-  pub counts : countsOf (start (bare 16) 3) race ≡ withKeys 1 0 (tally 3 9 1 2 1 0)
-  pub reached : let c = countsOf (start (bare 16) 3) race in c .lost ≡ (3 - 1) * c .won
+  pub grows : Grows (zeroTable 16) 3 race
+  pub counts : countsOf (start (zeroTable 16) 3) race ≡ withKeys 1 0 (tally 3 9 1 2 1 0)
+  pub reached : let c = countsOf (start (zeroTable 16) 3) race in c .lost ≡ (3 - 1) * c .won
 
 -- a key comes by one swap and goes by two
 abbrev pub comeAndGo : History
@@ -42,15 +42,15 @@ comeAndGo = calls 0 0 5 ∷ moves 0 ∷ moves 0 ∷ moves 0 ∷ calls 0 1 5 ∷ 
 
 -- won = keys in + 2 × keys out
 pub record MostWon : Type 0 where
-  pub grows : Grows (bare 8) 1 comeAndGo
-  pub counts : countsOf (start (bare 8) 1) comeAndGo ≡ withKeys 1 1 (tally 2 7 3 0 1 1)
-  pub reached : let c = countsOf (start (bare 8) 1) comeAndGo in c .won ≡ c .ins + 2 * c .outs
+  pub grows : Grows (zeroTable 8) 1 comeAndGo
+  pub counts : countsOf (start (zeroTable 8) 1) comeAndGo ≡ withKeys 1 1 (tally 2 7 3 0 1 1)
+  pub reached : let c = countsOf (start (zeroTable 8) 1) comeAndGo in c .won ≡ c .ins + 2 * c .outs
 
 -- two parties come to take out the same key, and one is too late: it was live at the call and is not any more
 abbrev pub late : Asked
 late =
     record {
-      table = bare 12;
+      table = zeroTable 12;
       parties = 2;
       before = calls 0 0 5 ∷ moves 0 ∷ moves 0 ∷ moves 0 ∷ calls 0 1 5 ∷ [];
       party = 1;
@@ -68,10 +68,10 @@ pub record TooLate : Type 0 where
 
 -- a run by two parties: it is accepted, and leaves these keys and counts, and a chain that rises
 pub record Leaves (history : History) (keys : List ℕ) (counts : Counts) : Type 0 where
-  pub grows : Grows (bare 16) 2 history
-  pub keys-then : liveKeys (grown (bare 16) 2 history) ≡ keys
-  pub chain-then : chainRises (grown (bare 16) 2 history) ≡ true
-  pub counts-then : countsOf (start (bare 16) 2) history ≡ counts
+  pub grows : Grows (zeroTable 16) 2 history
+  pub keys-then : liveKeys (grown (zeroTable 16) 2 history) ≡ keys
+  pub chain-then : chainRises (grown (zeroTable 16) 2 history) ≡ true
+  pub counts-then : countsOf (start (zeroTable 16) 2) history ≡ counts
 
 -- an ADD of a key that is being taken out leads its row on to what stands behind the removed row, not to the removed row
 abbrev pub overRemoved : History
@@ -108,7 +108,7 @@ pub record Traps : Type 0 where
   pub read-again : Leaves readAgain (3 ∷ []) (withKeys 2 1 (tally 3 12 3 1 2 1))
   pub found-again : Leaves foundAgain (0 ∷ []) (withKeys 2 1 (tally 3 14 4 1 2 1))
   -- and then row 1 leads to the one key that is left, and that to row 2
-  pub cleaned-up : let t = grown (bare 16) 2 foundAgain .table in nextAt t (nextAt t 1) ≡ 2
+  pub cleaned-up : let t = grown (zeroTable 16) 2 foundAgain .table in nextAt t (nextAt t 1) ≡ 2
 
 pub record Instances : Type 0 where
   pub run-of-01 : RunOf01

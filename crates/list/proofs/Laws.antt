@@ -22,7 +22,7 @@ use Rattle.party.specs.declared.Call.{Call}
 use Rattle.party.specs.declared.Call.the-variants.{Contains}
 use Rattle.party.specs.declared.State.{State}
 use Rattle.moves.specs.declared.Said.{Said}
-use Rattle.bare.specs.Bare.{Machine, machine, stepped, bareCallOf, bareMoveOf}
+use Rattle.bare.specs.Bare.{Machine, machine, bareDone, bareCallOf, bareMoveOf}
 use Rattle.form.proofs.Good.{two}
 use Rattle.form.specs.Form.{rowsIn, goodForm}
 use Rattle.fresh.specs.Fresh.{ends, freshTable, restingState}
@@ -128,7 +128,7 @@ module _ (m : Machine) (party : ℕ) where
 
   pub move-accepts : (asked : Verdict) {verdict : Verdict} {after : Machine} {said : Said} →
       verdictIs asked ≡ moveAsks (m .state) party → verdictIs verdict ≡ formTests m (verdictIs asked) → verdict ≡ Accepted →
-      stepped after said ≡ bareMoveOf m party → left after (accepted said) ≡ moveOf m party
+      bareDone after said ≡ bareMoveOf m party → left after (accepted said) ≡ moveOf m party
   unfolding moveOf
   move-accepts asked asks forms is moves =
       ap accepting moves ∙ leaves-changed (moveTests m party) m (accepting (bareMoveOf m party)) (form-told m asked asks forms is)

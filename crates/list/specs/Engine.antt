@@ -12,7 +12,7 @@ use Rattle.party.specs.declared.Call.the-variants.{Add, Remove, Contains}
 use Rattle.party.specs.declared.State.{State}
 use Rattle.party.specs.Party.{partyAt}
 use Rattle.moves.specs.declared.Said.{Said}
-use Rattle.bare.specs.Bare.{Machine, machine, Stepped, bareCallOf, bareMoveOf}
+use Rattle.bare.specs.Bare.{Machine, machine, BareDone, bareCallOf, bareMoveOf}
 use Rattle.fresh.specs.Fresh.{freshTable, restingState}
 use Rattle.form.specs.Form.{rowsIn, columnsAgree, isIdle, isContains, goodForm}
 use Rattle.chain.specs.Chain.{rises, liveFrom}
@@ -83,7 +83,7 @@ abbrev pub moveTests : Machine → (party : ℕ) → Tests
 moveTests m party = formTests m (moveAsks (m .state) party)
 
 -- a move is answered by what it says
-abbrev pub accepting : Stepped → Left Machine Said
+abbrev pub accepting : BareDone → Left Machine Said
 accepting made = left (made .after) (accepted (made .said))
 
 unfoldable pub moveOf : Machine → (party : ℕ) → Left Machine Said

@@ -31,18 +31,18 @@ LastMove =
     × (run (spent 16777215) (moves 0 ∷ moves 0 ∷ []) .state .moves ≡ 16777216)
 
 -- columns of so many rows, all zeros
-abbrev pub bare : ℕ → Table
-bare rows = tab (zeros rows) (zeros rows) (zeros rows) (zeros rows)
+abbrev pub zeroTable : ℕ → Table
+zeroTable rows = tab (zeros rows) (zeros rows) (zeros rows) (zeros rows)
 
 -- the ends of both ranges, columns of different lengths, and 1 before 2 where both apply
 abbrev pub SetUps : Type 0
 SetUps =
-    (setUpOf (bare 4) 16 .answer ≡ passed)
-    × (setUpOf (bare 4) 17 .answer ≡ refused 2)
-    × (setUpOf (bare 4) 0 .answer ≡ refused 2)
-    × (setUpOf (bare 3) 17 .answer ≡ refused 1)
-    × (setUpOf (bare 4096) 1 .answer ≡ passed)
-    × (setUpOf (bare 4097) 1 .answer ≡ refused 1)
+    (setUpOf (zeroTable 4) 16 .answer ≡ passed)
+    × (setUpOf (zeroTable 4) 17 .answer ≡ refused 2)
+    × (setUpOf (zeroTable 4) 0 .answer ≡ refused 2)
+    × (setUpOf (zeroTable 3) 17 .answer ≡ refused 1)
+    × (setUpOf (zeroTable 4096) 1 .answer ≡ passed)
+    × (setUpOf (zeroTable 4097) 1 .answer ≡ refused 1)
     × (setUpOf (tab (zeros 8) (zeros 8) (zeros 8) (zeros 9)) 1 .answer ≡ refused 1)
 
 -- a table of two items, rows 4 and 5, linked in that order

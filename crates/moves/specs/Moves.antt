@@ -1,4 +1,4 @@
--- The moves, one definition for each place (document 01, "The moves").
+-- The moves, one definition for each place (document 01, "The moves"). What p, n, c, s, r and own are: `Party` in party/src/lib.rt.
 use mathlib.Core.Bool.{not, cond, _&&_, _||_}
 use Prim.Native.Nat.{ℕ}
 use lib.Dec.{eqb}
@@ -19,7 +19,7 @@ use Rattle.party.specs.Party.{idling, published, walking, skipping, adding, mar
 
 -- ---- what a move comes to: the party after it, what is said, what came of the access, what is written
 
--- a read, after which the call goes on
+-- a read, after which the call goes on; what a read writes is the own row, to which nobody is led yet
 abbrev pub reads : Party → Write → Moved
 reads party write = record { party = party; said = Nothing; access = Read; write = write }
 

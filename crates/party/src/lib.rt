@@ -45,12 +45,19 @@ pub enum Place {
 // A party record. A value that the place does not keep is 0.
 pub struct Party {
     pub place: Place,
+    // the last row below the key that the walk has passed
     pub p: u16,
+    // the next of p, as the party read it
     pub n: u16,
+    // the row at which the walk stands
     pub c: u16,
+    // the next of c, as a REMOVE read it
     pub s: u16,
+    // the row behind the removed one, to which p is to be led
     pub r: u16,
+    // the row of the call: an item for an ADD, the splice for a REMOVE; of an idle or looking party its spare
     pub own: u16,
+    // nobody has been led to own yet
     pub unpublished: bool,
 }
 

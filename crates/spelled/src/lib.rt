@@ -1,1 +1,1 @@
-// Theory alone: what is written in decimal is read back as the same number.
+// What a schedule is and how it is written, and that a text passes exactly if it is written so: no code; statements in specs/, proofs in proofs/.

@@ -58,8 +58,7 @@ nextDigit text n =
     (cond (ltb (n .value) 10000)
     (cond (ltb d 10) (numeral (n .value * 10 + d) (placeAfter text (n .next))) n) n)
 
--- In a text of at most 65,536 bytes no good number has more than four digits. Of a longer one five are read, and the sixth stands where its line
--- has to end.
+-- Up to five digits are read. No number of a good line in a text of at most 65,536 bytes has more, and a sixth digit stands where the line has to end.
 abbrev pub numberAt : List ℕ → ℕ → Number
 numberAt text at = nextDigit text (nextDigit text (nextDigit text (nextDigit text (firstDigit text at))))
 

@@ -1,4 +1,4 @@
--- TakesEvent case by case: what the tests found, and what is then answered and left.
+-- The turn of an event, case by case: what the tests found, and what is then answered and left.
 -- Assumes nothing.
 use mathlib.Core.Path.{_≡_, ap, sym, _∙_}
 use Prim.Native.Nat.{ℕ}
@@ -11,7 +11,7 @@ use Rattle.refusal.proofs.Laws.{leaves-changed, leaves-found}
 use Rattle.refusal.proofs.Told.{tests-told}
 use Rattle.party.specs.declared.Call.{Call}
 use Rattle.moves.specs.declared.Said.{Said}
-use Rattle.bare.specs.Bare.{Machine, stepped, bareCallOf, bareMoveOf}
+use Rattle.bare.specs.Bare.{Machine, bareDone, bareCallOf, bareMoveOf}
 use Rattle.form.specs.Form.{rowsIn}
 use Rattle.field.specs.declared.Loaded.{Loaded}
 use Rattle.field.specs.declared.Loaded.the-variants.{Key, Refused as NotLoaded}
@@ -40,7 +40,7 @@ module _ (m : Machine) (party : ℕ) where
       (tests-told asks is)
 
   pub moves-on : {verdict : Verdict} {after : Machine} {said : Said} → verdictIs verdict ≡ moveAsks (m .state) party → verdict ≡ Accepted →
-      stepped after said ≡ bareMoveOf m party → left after (accepted said) ≡ plainTurn m (moves party)
+      bareDone after said ≡ bareMoveOf m party → left after (accepted said) ≡ plainTurn m (moves party)
   unfolding plainTurn
   moves-on asks is made =
       ap accepting made ∙ leaves-changed (moveAsks (m .state) party) m (accepting (bareMoveOf m party)) (tests-told asks is)

@@ -89,6 +89,6 @@ alone party code key number = calls party code key ∷ replicate number (moves p
 abbrev pub silent : (number : ℕ) → List (Answer Said)
 silent number = replicate number going
 
--- the answers to a call and its moves: nothing is said until the move of this number says it
+-- the answers to a call and then its moves: nothing is said, by the call nor by a move, until the move of this number says it
 abbrev pub by-move : (number : ℕ) → Answer Said → List (Answer Said)
 by-move number answer = silent number ++ (answer ∷ [])

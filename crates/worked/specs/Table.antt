@@ -54,7 +54,7 @@ abbrev pub E4 : Example
 E4 = list 8 1
     (record { events = alone 0 remove 5 2; answers = by-move 2 no; places = Idle ∷ []; listing = listed []; taken = 5; moved = 2; won = 0; lost = 0 }
     ∷ record { events = calls 0 add 7 ∷ []; answers = going ∷ []; places = Walk Add 7 ∷ []; listing = listed []; taken = 5; moved = 2; won = 0; lost = 0 }
-    ∷ record { events = moves 0 ∷ moves 0 ∷ moves 0 ∷ []; answers = by-move 2 yes; places = Idle ∷ []; listing = listed (7 ∷ []); taken = 5; moved = 5; won = 1; lost = 0 }
+    ∷ record { events = moves 0 ∷ moves 0 ∷ moves 0 ∷ []; answers = going ∷ going ∷ yes ∷ []; places = Idle ∷ []; listing = listed (7 ∷ []); taken = 5; moved = 5; won = 1; lost = 0 }
     ∷ [])
 
 -- a CONTAINS on an empty list is answered no by its second move
@@ -77,7 +77,7 @@ E7 = list 12 2
     ++ (record { events = alone 1 contains 5 2; answers = by-move 2 no; places = Clean Remove 5 ∷ Idle ∷ []; listing = listed []; taken = 6; moved = 8; won = 2; lost = 0 }
     ∷ []))
 
--- from the same state an ADD of 5 by the other party is answered yes by its fourth move; the remover then loses CLEAN, and
+-- from the state of E7 before its CONTAINS an ADD of 5 by the other party is answered yes by its fourth move; the remover then loses CLEAN, and
 -- two moves later is answered yes
 abbrev pub E8 : Example
 E8 = list 12 2

@@ -13,7 +13,7 @@ pub record Behind (w : World) (K p : ℕ) : Type 0 where
   pub row : Row w p
   pub low : w .rank p < K
 
--- n was the next of p, and c is reached from n through removed rows
+-- p is below the key, n is a row up to row 2, and c is reached from n through removed rows
 pub record Walking (w : World) (K p n c : ℕ) : Type 0 where
   pub behind : Behind w K p
   pub row : Row w n

@@ -55,7 +55,7 @@ pub record Sound (w : World) (x : ℕ) : Type 0 where
   pub gone : Marked w x → Gone w x
   pub reach : w .rank 1 ≤ w .rank x → w .rank x ≤ w .rank 2 → Open w x → Reach w x 1
 
--- the four ends stand in order, and every published row is sound
+-- the four ends are published, rows 0, 1 and 2 stand in order, and every published row is sound
 pub record Good (w : World) : Type 0 where
   pub head : Row w 0
   pub one : Row w 1
