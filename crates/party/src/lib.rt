@@ -45,15 +45,15 @@ pub enum Place {
 // A party record. A value that the place does not keep is 0.
 pub struct Party {
     pub place: Place,
-    // the last row below the key that the walk has passed
+    // the row below the key whose next ADDSWAP and CLEAN swap
     pub p: u16,
-    // the next of p, as the party read it
+    // what the party expects to be the next of p
     pub n: u16,
     // the row at which the walk stands
     pub c: u16,
-    // the next of c, as a REMOVE read it
+    // what MARK expects to be the next of c
     pub s: u16,
-    // the row behind the removed one, to which p is to be led
+    // the row to which CLEAN leads p: what stood behind the removed row
     pub r: u16,
     // the row of the call: an item for an ADD, the splice for a REMOVE; of an idle or looking party its spare
     pub own: u16,
