@@ -1,7 +1,7 @@
 -- The contracts of this crate leave one outcome each.
 -- Assumes nothing.
-use Rattle.outcome.specs.Outcome.{OneOutcome}
-use Rattle.outcome.proofs.Laws.{by-equation}
+use Rattle.logic.specs.Outcome.{OneOutcome}
+use Rattle.logic.proofs.Outcome.{by-equation}
 use Rattle.columns.proofs.read_u8.Reads as read-u8
 use Rattle.columns.proofs.read_u16.Reads as read-u16
 use Rattle.columns.proofs.read_u32.Reads as read-u32

@@ -1,4 +1,3 @@
 -- The laws of columns, each once for all three widths, and that the contracts leave no choice.
 pub mod Laws
-pub mod Every
 pub mod Determined

@@ -1,4 +1,3 @@
 -- What a read and a write of a column mean, and what is proved of them.
 pub mod Column
-pub mod Every
 pub mod Claims

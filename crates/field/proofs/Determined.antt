@@ -4,8 +4,8 @@ use Prim.{Unit}
 use mathlib.Core.Path.{_≡_, ap}
 use mathlib.Core.List.{List}
 use Prim.Native.Nat.{ℕ}
-use Rattle.outcome.specs.Outcome.{OneOutcome}
-use Rattle.outcome.proofs.Laws.{by-equation}
+use Rattle.logic.specs.Outcome.{OneOutcome}
+use Rattle.logic.proofs.Outcome.{by-equation}
 use Rattle.refusal.specs.declared.Verdict.{Verdict}
 use Rattle.refusal.specs.Answer.{Left}
 use Rattle.refusal.proofs.Told.{verdicts-differ}

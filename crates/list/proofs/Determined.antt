@@ -4,15 +4,15 @@ use Prim.{Unit}
 use mathlib.Core.Path.{_≡_, ap}
 use mathlib.Core.List.{List}
 use Prim.Native.Nat.{ℕ}
-use Rattle.outcome.specs.Outcome.{OneOutcome}
-use Rattle.outcome.proofs.Laws.{by-equation}
+use Rattle.logic.specs.Outcome.{OneOutcome}
+use Rattle.logic.proofs.Outcome.{by-equation}
 use Rattle.refusal.specs.declared.Verdict.{Verdict}
 use Rattle.refusal.specs.Answer.{Left, left}
 use Rattle.refusal.proofs.Told.{verdicts-differ}
-use Rattle.rows.specs.Table.{Table, tab}
-use Rattle.party.specs.declared.State.{State}
-use Rattle.moves.specs.declared.Said.{Said}
-use Rattle.bare.specs.Bare.{Machine}
+use Rattle.list_rows.specs.Table.{Table, tab}
+use Rattle.list_party.specs.declared.State.{State}
+use Rattle.list_moves.specs.declared.Said.{Said}
+use Rattle.list_unchecked.specs.Bare.{Machine}
 use Rattle.list.specs.declared.After.{After}
 use Rattle.list.specs.declared.Reply.{Reply}
 use Rattle.list.specs.declared.Stepped.{Stepped}

@@ -1,11 +1,11 @@
 -- The examples, each computed by the checker.
 -- Assumes nothing.
 use mathlib.Core.Path.{refl}
-use Rattle.rows.specs.Order.{rank}
-use Rattle.moves.specs.Moves.{prepareOf, onwardOf, landedAddOf, landedRemoveOf, landedContainsOf, walkOf, skipOf, addSwapOf, markOf, rereadOf, cleanOf, backOf, lookOf}
-use Rattle.bare.specs.Bare.{begunOf, bareCallOf, bareMoveOf}
-use Rattle.form.specs.Form.{kindsFit, keysFit, linksFit, recordFits, partiesFit, goodForm}
-use Rattle.chain.specs.Chain.{rises, liveFrom}
+use Rattle.list_rows.specs.Order.{rank}
+use Rattle.list_moves.specs.Moves.{prepareOf, onwardOf, landedAddOf, landedRemoveOf, landedContainsOf, walkOf, skipOf, addSwapOf, markOf, rereadOf, cleanOf, backOf, lookOf}
+use Rattle.list_unchecked.specs.Bare.{begunOf, bareCallOf, bareMoveOf}
+use Rattle.list_form.specs.Form.{kindsFit, keysFit, linksFit, recordFits, partiesFit, goodForm}
+use Rattle.list_chain.specs.Chain.{rises, liveFrom}
 use Rattle.list.specs.Engine.{setUpOf, callOf, moveOf, listOf}
 use Rattle.list.specs.Run.{run, replies}
 use Rattle.list.specs.Examples.{Examples}

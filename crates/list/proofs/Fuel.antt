@@ -9,12 +9,12 @@ use native.Mathlib.Nat.{eq-or-lt-of-le, le-of-suc-le-suc}
 use native.Mathlib.Omega.{arith}
 use lib.Dec.{eqb, ltb}
 use borrow.Author.Tests.{ltb-true, lt-ltb}
-use Rattle.columns.proofs.Every.{and-right}
-use Rattle.rows.specs.Table.{Table, keyAt, nextAt, isSplice}
-use Rattle.rows.specs.Order.{rankAt}
-use Rattle.bare.specs.Bare.{Machine}
-use Rattle.form.proofs.Good.{Good, good}
-use Rattle.chain.specs.Chain.{behind, isLive, rises, withKey, liveFrom}
+use Rattle.logic.proofs.Tests.{and-right}
+use Rattle.list_rows.specs.Table.{Table, keyAt, nextAt, isSplice}
+use Rattle.list_rows.specs.Order.{rankAt}
+use Rattle.list_unchecked.specs.Bare.{Machine}
+use Rattle.list_form.proofs.Good.{Good, good}
+use Rattle.list_chain.specs.Chain.{behind, isLive, rises, withKey, liveFrom}
 use Rattle.list.specs.Claims.{FuelNeverDecides}
 
 -- ---- how many of the first rows have a rank above a bound

@@ -13,22 +13,22 @@ use lib.ListN.{length, getD, set, length-set}
 use lib.Seq.{set-out, getD-set-same, getD-set-other}
 use borrow.Author.Tests.{ltb-true, leb-true, lt-ltb, le-ltb, not-true}
 use Rattle.columns.specs.Column.{at, put}
-use Rattle.columns.proofs.Every.{and-left, and-right, and-both}
-use Rattle.rows.specs.declared.Write.{Write}
-use Rattle.rows.specs.declared.Write.the-variants.{Keep, Link, Splice, Item}
-use Rattle.rows.specs.Table.{Table, nextAt, backAt, isSplice, link, withRow}
-use Rattle.rows.specs.Order.{belowKey, equalsKey}
-use Rattle.rows.specs.Writes.{written}
-use Rattle.party.specs.declared.Call.{Call}
-use Rattle.party.specs.declared.Call.the-variants.{Add, Remove, Contains}
-use Rattle.party.specs.declared.Place.{Place}
-use Rattle.party.specs.declared.Place.the-variants.{Idle, Walk, Skip, AddSwap, Mark, Reread, Clean, Back, Look}
-use Rattle.party.specs.declared.Party.{Party}
-use Rattle.party.specs.Party.{blank}
-use Rattle.moves.specs.declared.Moved.{Moved}
-use Rattle.moves.specs.declared.Said.{Said}
-use Rattle.moves.specs.declared.Said.the-variants.{Yes, No}
-use Rattle.moves.specs.Moves.{
+use Rattle.logic.proofs.Tests.{and-left, and-right, and-both}
+use Rattle.list_rows.specs.declared.Write.{Write}
+use Rattle.list_rows.specs.declared.Write.the-variants.{Keep, Link, Splice, Item}
+use Rattle.list_rows.specs.Table.{Table, nextAt, backAt, isSplice, link, withRow}
+use Rattle.list_rows.specs.Order.{belowKey, equalsKey}
+use Rattle.list_rows.specs.Writes.{written}
+use Rattle.list_party.specs.declared.Call.{Call}
+use Rattle.list_party.specs.declared.Call.the-variants.{Add, Remove, Contains}
+use Rattle.list_party.specs.declared.Place.{Place}
+use Rattle.list_party.specs.declared.Place.the-variants.{Idle, Walk, Skip, AddSwap, Mark, Reread, Clean, Back, Look}
+use Rattle.list_party.specs.declared.Party.{Party}
+use Rattle.list_party.specs.Party.{blank}
+use Rattle.list_moves.specs.declared.Moved.{Moved}
+use Rattle.list_moves.specs.declared.Said.{Said}
+use Rattle.list_moves.specs.declared.Said.the-variants.{Yes, No}
+use Rattle.list_moves.specs.Moves.{
   answers,
   prepareOf,
   onwardOf,
@@ -45,7 +45,7 @@ use Rattle.moves.specs.Moves.{
   lookOf,
   placeOf,
 }
-use Rattle.form.specs.Form.{
+use Rattle.list_form.specs.Form.{
   kindFits,
   keyFits,
   linkFits,
@@ -60,7 +60,7 @@ use Rattle.form.specs.Form.{
   recordFits,
   partyFits,
 }
-use Rattle.form.proofs.Good.{Each, Rows, Below, Fits, fits, record-fits}
+use Rattle.list_form.proofs.Good.{Each, Rows, Below, Fits, fits, record-fits}
 
 -- ---- writes
 

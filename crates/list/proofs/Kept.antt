@@ -14,28 +14,28 @@ use borrow.Author.Tests.{leb-true, leb-false, ltb-false, eqb-false, lt-ltb, le-l
 use Rattle.refusal.specs.Answer.{accepted, Left, left, Tests, passed, refusing, leaving}
 use Rattle.refusal.proofs.Laws.{past-test, change-past}
 use Rattle.columns.specs.Column.{zeros}
-use Rattle.columns.proofs.Every.{and-left, and-both}
-use Rattle.rows.specs.declared.Write.the-variants.{Item}
-use Rattle.rows.specs.Table.{Table}
-use Rattle.rows.specs.Writes.{written}
-use Rattle.party.specs.declared.Call.{Call}
-use Rattle.party.specs.declared.Call.the-variants.{Add, Remove, Contains}
-use Rattle.party.specs.declared.Place.{Place}
-use Rattle.party.specs.declared.Place.the-variants.{Idle, Walk, Skip, AddSwap, Mark, Reread, Clean, Back, Look}
-use Rattle.party.specs.declared.Party.{Party}
-use Rattle.party.specs.declared.State.{State}
-use Rattle.party.specs.declared.Access.{Access}
-use Rattle.party.specs.declared.Access.the-variants.{None, Read, Won, Lost}
-use Rattle.party.specs.Party.{blank, partyAt, withParty, withTaken, starting, looking, oneMore, counted, tallied}
-use Rattle.moves.specs.declared.Moved.{Moved}
-use Rattle.moves.specs.Moves.{placeOf}
-use Rattle.bare.specs.Bare.{Machine, machine, partyOf, startOf, begunOf, started, bareCallOf, bareMoveOf}
-use Rattle.form.specs.Form.{kindFits, keyFits, linkFits, isAdd, isRemove, isIdle, noneOrSpare, ownFits, recordFits, partyFits, rowsIn, goodForm}
-use Rattle.fresh.specs.Fresh.{freshTable, restingState}
+use Rattle.logic.proofs.Tests.{and-left, and-both}
+use Rattle.list_rows.specs.declared.Write.the-variants.{Item}
+use Rattle.list_rows.specs.Table.{Table}
+use Rattle.list_rows.specs.Writes.{written}
+use Rattle.list_party.specs.declared.Call.{Call}
+use Rattle.list_party.specs.declared.Call.the-variants.{Add, Remove, Contains}
+use Rattle.list_party.specs.declared.Place.{Place}
+use Rattle.list_party.specs.declared.Place.the-variants.{Idle, Walk, Skip, AddSwap, Mark, Reread, Clean, Back, Look}
+use Rattle.list_party.specs.declared.Party.{Party}
+use Rattle.list_party.specs.declared.State.{State}
+use Rattle.list_party.specs.declared.Access.{Access}
+use Rattle.list_party.specs.declared.Access.the-variants.{None, Read, Won, Lost}
+use Rattle.list_party.specs.Party.{blank, partyAt, withParty, withTaken, starting, looking, oneMore, counted, tallied}
+use Rattle.list_moves.specs.declared.Moved.{Moved}
+use Rattle.list_moves.specs.Moves.{placeOf}
+use Rattle.list_unchecked.specs.Bare.{Machine, machine, partyOf, startOf, begunOf, started, bareCallOf, bareMoveOf}
+use Rattle.list_form.specs.Form.{kindFits, keyFits, linkFits, isAdd, isRemove, isIdle, noneOrSpare, ownFits, recordFits, partyFits, rowsIn, goodForm}
+use Rattle.list_fresh.specs.Fresh.{freshTable, restingState}
 use Rattle.list.specs.Engine.{badParties, setUpTests, setUpOf, callNamed, noRow, callAsks, callTests, callOf, moveAsks, moveTests, accepting, moveOf}
 use Rattle.list.proofs.Laws.{repeat-at, neither, past-form, table-fits, past-set-up}
 use Rattle.list.specs.Claims.{SetUpIsGood, BlankIsBad, CallKeeps, MoveKeeps}
-use Rattle.form.proofs.Good.{Each, Rows, Fits, fits, Good, good, good-form}
+use Rattle.list_form.proofs.Good.{Each, Rows, Fits, fits, Good, good, good-form}
 use Rattle.list.proofs.Keeps.{row-keeps, item-fits, write-keeps, party-keeps, FitMove, move-fits}
 
 -- ---- what the tests tell

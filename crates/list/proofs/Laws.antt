@@ -17,15 +17,15 @@ use Rattle.refusal.specs.Answer.{accepted, refused, left, Tests, passed, refusi
 use Rattle.refusal.proofs.Laws.{past-test, leaves-changed, leaves-found}
 use Rattle.refusal.proofs.Told.{tests-told}
 use Rattle.columns.specs.Column.{zeros}
-use Rattle.rows.specs.Table.{Table, tab}
-use Rattle.party.specs.declared.Call.{Call}
-use Rattle.party.specs.declared.Call.the-variants.{Contains}
-use Rattle.party.specs.declared.State.{State}
-use Rattle.moves.specs.declared.Said.{Said}
-use Rattle.bare.specs.Bare.{Machine, machine, bareDone, bareCallOf, bareMoveOf}
-use Rattle.form.proofs.Good.{two}
-use Rattle.form.specs.Form.{rowsIn, goodForm}
-use Rattle.fresh.specs.Fresh.{ends, freshTable, restingState}
+use Rattle.list_rows.specs.Table.{Table, tab}
+use Rattle.list_party.specs.declared.Call.{Call}
+use Rattle.list_party.specs.declared.Call.the-variants.{Contains}
+use Rattle.list_party.specs.declared.State.{State}
+use Rattle.list_moves.specs.declared.Said.{Said}
+use Rattle.list_unchecked.specs.Bare.{Machine, machine, bareDone, bareCallOf, bareMoveOf}
+use Rattle.list_form.proofs.Good.{two}
+use Rattle.list_form.specs.Form.{rowsIn, goodForm}
+use Rattle.list_fresh.specs.Fresh.{ends, freshTable, restingState}
 use Rattle.list.specs.Engine.{badTable, formTests, badParties, setUpTests, setUpOf, callNamed, callAsks, callTests, callOf, moveAsks, moveTests, accepting, moveOf, chainRises, liveKeys, listTests, placesWith, listOf}
 
 -- what is repeated stands everywhere

@@ -8,11 +8,11 @@ use Rattle.refusal.specs.Number.{numberOf}
 use Rattle.refusal.specs.Answer.{accepted, refused, left, Tests, passed, leaving}
 use Rattle.refusal.proofs.Laws.{not-both}
 use Rattle.refusal.proofs.Told.{numbers-differ}
-use Rattle.bare.specs.Bare.{Machine, machine, bareCallOf, bareMoveOf}
-use Rattle.form.specs.Form.{rowsIn, goodForm}
+use Rattle.list_unchecked.specs.Bare.{Machine, machine, bareCallOf, bareMoveOf}
+use Rattle.list_form.specs.Form.{rowsIn, goodForm}
 use Rattle.list.specs.declared.Reply.the-variants.{Heard, Refused}
 use Rattle.list.specs.declared.Listed.the-variants.{Keys, Refused as NotListed}
-use Rattle.fresh.specs.Fresh.{freshTable, restingState}
+use Rattle.list_fresh.specs.Fresh.{freshTable, restingState}
 use Rattle.list.specs.Engine.{badTable, formTests, setUpTests, setUpOf, callNamed, callAsks, callTests, callOf, moveAsks, moveTests, accepting, moveOf, liveKeys, listTests, placesWith, listOf}
 use Rattle.list.specs.Claims.{CallIsBare, MoveIsBare, RefusedSetUpLeaves, RefusedCallLeaves, RefusedMoveLeaves, RefusedListingLeaves, RepliesDiffer, ListedDiffer}
 

@@ -3,9 +3,9 @@ use Prim.{Unit}
 use Prim.Native.Nat.{ℕ}
 use Rattle.refusal.specs.Number.{numberOf}
 use Rattle.refusal.specs.Answer.{Answer, accepted, refused, Left, left, verdictIs}
-use Rattle.rows.specs.Table.{Table}
-use Rattle.moves.specs.declared.Said.{Said}
-use Rattle.bare.specs.Bare.{Machine, machine}
+use Rattle.list_rows.specs.Table.{Table}
+use Rattle.list_moves.specs.declared.Said.{Said}
+use Rattle.list_unchecked.specs.Bare.{Machine, machine}
 use Rattle.list.specs.declared.After.{After}
 use Rattle.list.specs.declared.Reply.{Reply}
 use Rattle.list.specs.declared.Reply.the-variants.{Heard, Refused}

@@ -4,15 +4,15 @@ use mathlib.Core.Bool.{true, false}
 use mathlib.Core.List.{List}
 use Prim.Native.Nat.{ℕ, _+_}
 use Rattle.refusal.specs.Answer.{accepted, refused, left, passed, leaving}
-use Rattle.rows.specs.Table.{Table}
-use Rattle.moves.specs.declared.Said.{Said}
-use Rattle.bare.specs.Bare.{Machine, machine, bareCallOf, bareMoveOf}
-use Rattle.form.specs.Form.{rowsIn, goodForm}
+use Rattle.list_rows.specs.Table.{Table}
+use Rattle.list_moves.specs.declared.Said.{Said}
+use Rattle.list_unchecked.specs.Bare.{Machine, machine, bareCallOf, bareMoveOf}
+use Rattle.list_form.specs.Form.{rowsIn, goodForm}
 use Rattle.list.specs.declared.Reply.{Reply}
 use Rattle.list.specs.declared.Listed.{Listed}
 use Rattle.list.specs.Answers.{replyIs, listedIs}
-use Rattle.chain.specs.Chain.{rises, liveFrom}
-use Rattle.fresh.specs.Fresh.{restingState}
+use Rattle.list_chain.specs.Chain.{rises, liveFrom}
+use Rattle.list_fresh.specs.Fresh.{restingState}
 use Rattle.list.specs.Engine.{badTable, setUpOf, callNamed, callAsks, callOf, moveAsks, accepting, moveOf, listOf}
 
 -- ---- good form is kept

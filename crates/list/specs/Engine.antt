@@ -6,16 +6,16 @@ use Prim.Native.Nat.{ℕ, zero, suc}
 use lib.ListN.{length, drop}
 use lib.Dec.{eqb, ltb, leb}
 use Rattle.refusal.specs.Answer.{accepted, Left, left, Tests, passed, refusing, leaving}
-use Rattle.rows.specs.Table.{Table}
-use Rattle.party.specs.declared.Call.{Call}
-use Rattle.party.specs.declared.Call.the-variants.{Add, Remove, Contains}
-use Rattle.party.specs.declared.State.{State}
-use Rattle.party.specs.Party.{partyAt}
-use Rattle.moves.specs.declared.Said.{Said}
-use Rattle.bare.specs.Bare.{Machine, machine, BareDone, bareCallOf, bareMoveOf}
-use Rattle.fresh.specs.Fresh.{freshTable, restingState}
-use Rattle.form.specs.Form.{rowsIn, columnsAgree, isIdle, isContains, goodForm}
-use Rattle.chain.specs.Chain.{rises, liveFrom}
+use Rattle.list_rows.specs.Table.{Table}
+use Rattle.list_party.specs.declared.Call.{Call}
+use Rattle.list_party.specs.declared.Call.the-variants.{Add, Remove, Contains}
+use Rattle.list_party.specs.declared.State.{State}
+use Rattle.list_party.specs.Party.{partyAt}
+use Rattle.list_moves.specs.declared.Said.{Said}
+use Rattle.list_unchecked.specs.Bare.{Machine, machine, BareDone, bareCallOf, bareMoveOf}
+use Rattle.list_fresh.specs.Fresh.{freshTable, restingState}
+use Rattle.list_form.specs.Form.{rowsIn, columnsAgree, isIdle, isContains, goodForm}
+use Rattle.list_chain.specs.Chain.{rises, liveFrom}
 
 -- ---- tests that several entry points share
 

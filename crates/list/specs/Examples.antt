@@ -5,11 +5,11 @@ use Prim.Native.Nat.{ℕ}
 use mathlib.Core.Bool.{true}
 use Rattle.refusal.specs.Answer.{accepted, refused, left, passed}
 use Rattle.columns.specs.Column.{zeros}
-use Rattle.rows.specs.Table.{Table, tab}
-use Rattle.party.specs.Party.{counted}
-use Rattle.bare.specs.Bare.{Machine, machine}
-use Rattle.form.specs.Form.{goodForm}
-use Rattle.fresh.specs.Fresh.{restingState}
+use Rattle.list_rows.specs.Table.{Table, tab}
+use Rattle.list_party.specs.Party.{counted}
+use Rattle.list_unchecked.specs.Bare.{Machine, machine}
+use Rattle.list_form.specs.Form.{goodForm}
+use Rattle.list_fresh.specs.Fresh.{restingState}
 use Rattle.list.specs.Engine.{setUpOf, listOf}
 use Rattle.list.specs.Run.{calls, moves, run, replies, going, fresh}
 

@@ -3,10 +3,10 @@ use mathlib.Core.List.{List, [], _∷_}
 use Prim.Native.Nat.{ℕ}
 use lib.ListN.{replicate}
 use Rattle.refusal.specs.Answer.{Answer, accepted, refused, Left, Tests}
-use Rattle.rows.specs.Table.{tab}
-use Rattle.moves.specs.declared.Said.{Said}
-use Rattle.moves.specs.declared.Said.the-variants.{Nothing, Yes, No}
-use Rattle.bare.specs.Bare.{Machine}
+use Rattle.list_rows.specs.Table.{tab}
+use Rattle.list_moves.specs.declared.Said.{Said}
+use Rattle.list_moves.specs.declared.Said.the-variants.{Nothing, Yes, No}
+use Rattle.list_unchecked.specs.Bare.{Machine}
 use Rattle.list.specs.Engine.{setUpOf, callOf, moveOf}
 
 -- what the engine is asked for: a call of a party by its code and key, or a move

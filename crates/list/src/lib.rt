@@ -1,23 +1,23 @@
 // The entry points of the list: set-up, call, move and listing, each with its refusals in their order.
-use chain::chain_rises;
-use chain::live_count;
-use chain::write_live;
-use form::good_form;
-use form::is_contains;
-use form::is_idle;
-use fresh::fresh_table;
-use fresh::resting_state;
-use moves::Said;
-use party::Call;
-use party::State;
+use list_chain::chain_rises;
+use list_chain::live_count;
+use list_chain::write_live;
+use list_form::good_form;
+use list_form::is_contains;
+use list_form::is_idle;
+use list_fresh::fresh_table;
+use list_fresh::resting_state;
+use list_moves::Said;
+use list_party::Call;
+use list_party::State;
 use refusal::Refusal;
 use refusal::Verdict;
 ghost use mathlib.Core.Path.{_≡_};
 ghost use mathlib.Core.Bool.{not};
 ghost use lib.Dec.{ltb};
 ghost use Rattle.refusal.specs.Answer.{left, verdictIs, refusing, passed};
-ghost use Rattle.rows.specs.Table.{tab};
-ghost use Rattle.bare.specs.Bare.{machine};
+ghost use Rattle.list_rows.specs.Table.{tab};
+ghost use Rattle.list_unchecked.specs.Bare.{machine};
 ghost use Rattle.list.specs.Engine.{badColumns, formTests, badParties, setUpOf, callNamed, noRow, callAsks, callOf, moveAsks, moveOf, listOf};
 ghost use Rattle.list.specs.Answers.{afterIs, stepIs, listedIs};
 
@@ -49,7 +49,7 @@ pub enum Listed {
 fn bad_columns(kind: usize, key: usize, next: usize, back: usize) -> bool
     ensures { λ r. ⌜ r ≡ badColumns kind key next back ⌝ }
 {
-    !(form::columns_agree(kind, key, next, back) & ((4 <= kind) & (kind <= 4096)))
+    !(list_form::columns_agree(kind, key, next, back) & ((4 <= kind) & (kind <= 4096)))
 }
 
 // 1, 2.
@@ -185,7 +185,7 @@ pub fn call(
     let verdict = form_verdict(kind, key, next, back, state, asked);
     match verdict {
         Verdict::Accepted => After {
-            state: bare::call(
+            state: list_unchecked::call(
                 kind,
                 key,
                 next,
@@ -215,7 +215,7 @@ pub fn step(
     let verdict = form_verdict(kind, key, next, back, state, move_asks(state, number));
     match verdict {
         Verdict::Accepted => {
-            let done = bare::step(kind, key, next, back, state, number);
+            let done = list_unchecked::step(kind, key, next, back, state, number);
             let after = done.state;
             let said = done.said;
             Stepped {

@@ -1,7 +1,7 @@
 // The pace program: replays one schedule many times, so that a replay can be timed, and writes the output of the last.
 use libc::STDIN_FILENO;
 use libc::STDOUT_FILENO;
-use replay::replay;
+use list_replay::replay;
 ghost use mathlib.Core.Path.{_≡_};
 ghost use lib.ListN.{length};
 

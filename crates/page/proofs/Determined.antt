@@ -1,6 +1,6 @@
 -- The contracts of this crate leave one outcome each.
 -- Assumes nothing.
-use Rattle.outcome.specs.Outcome.{OneOutcome}
+use Rattle.logic.specs.Outcome.{OneOutcome}
 use Rattle.page.specs.Page.{page}
 use Rattle.page.proofs.Laws.{one-page}
 use Rattle.page.proofs.put_byte.Reads as put-byte

@@ -1,7 +1,7 @@
 // The probe program: reads a question on standard input and writes all that came of it to standard output.
 use libc::STDIN_FILENO;
 use libc::STDOUT_FILENO;
-use probed::probe;
+use probe_answer::probe;
 ghost use mathlib.Core.Path.{_≡_};
 ghost use lib.ListN.{length};
 

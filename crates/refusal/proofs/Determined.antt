@@ -1,7 +1,7 @@
 -- The contract of this crate leaves one outcome.
 -- Assumes nothing.
-use Rattle.outcome.specs.Outcome.{OneOutcome}
-use Rattle.outcome.proofs.Laws.{by-equation}
+use Rattle.logic.specs.Outcome.{OneOutcome}
+use Rattle.logic.proofs.Outcome.{by-equation}
 use Rattle.refusal.proofs.Refusal.number.Reads as number
 
 pub number-fixed : OneOutcome number.Post (λ κs answer exit. answer)

@@ -5,13 +5,13 @@ use Prim.Native.Nat.{ℕ, _+_, _*_, _≤_}
 use native.Mathlib.Omega.{arith}
 use lib.ListN.{length, length-append}
 use Rattle.refusal.specs.Answer.{Answer, accepted, refused}
-use Rattle.party.specs.declared.Call.{Call}
-use Rattle.party.specs.declared.Call.the-variants.{Add, Remove, Contains}
-use Rattle.party.specs.declared.Place.{Place}
-use Rattle.party.specs.declared.State.{State}
-use Rattle.moves.specs.declared.Said.{Said}
-use Rattle.moves.specs.declared.Said.the-variants.{Nothing, Yes, No}
-use Rattle.text.specs.Reading.{bytes}
+use Rattle.list_party.specs.declared.Call.{Call}
+use Rattle.list_party.specs.declared.Call.the-variants.{Add, Remove, Contains}
+use Rattle.list_party.specs.declared.Place.{Place}
+use Rattle.list_party.specs.declared.State.{State}
+use Rattle.list_moves.specs.declared.Said.{Said}
+use Rattle.list_moves.specs.declared.Said.the-variants.{Nothing, Yes, No}
+use Rattle.logic.specs.Quoted.{bytes}
 use Rattle.page.proofs.Room.{digits-are-few}
 use Rattle.report.specs.declared.Asked.{Asked}
 use Rattle.report.specs.Lines.{askedAt, callName, askedText, answerLine, refusedLine, heard, saidBy, numberLine, keyLines, tallyLines}

@@ -1,16 +1,16 @@
 -- The lines of a schedule's output (document 01, "The schedule program"): all numbers and keys in decimal.
 use mathlib.Core.List.{List, [], _∷_, _++_}
 use Prim.Native.Nat.{ℕ}
-use Rattle.text.specs.Reading.{bytes}
+use Rattle.logic.specs.Quoted.{bytes}
 use Rattle.page.specs.Page.{decimal}
 use Rattle.refusal.specs.Answer.{Answer, accepted, refused}
-use Rattle.party.specs.declared.Call.{Call}
-use Rattle.party.specs.declared.Call.the-variants.{Add, Remove, Contains}
-use Rattle.party.specs.declared.Place.{Place}
-use Rattle.party.specs.declared.Place.the-variants.{Idle, Walk, Skip, AddSwap, Mark, Reread, Clean, Back, Look}
-use Rattle.party.specs.declared.State.{State}
-use Rattle.moves.specs.declared.Said.{Said}
-use Rattle.moves.specs.declared.Said.the-variants.{Nothing, Yes, No}
+use Rattle.list_party.specs.declared.Call.{Call}
+use Rattle.list_party.specs.declared.Call.the-variants.{Add, Remove, Contains}
+use Rattle.list_party.specs.declared.Place.{Place}
+use Rattle.list_party.specs.declared.Place.the-variants.{Idle, Walk, Skip, AddSwap, Mark, Reread, Clean, Back, Look}
+use Rattle.list_party.specs.declared.State.{State}
+use Rattle.list_moves.specs.declared.Said.{Said}
+use Rattle.list_moves.specs.declared.Said.the-variants.{Nothing, Yes, No}
 use Rattle.report.specs.declared.Asked.{Asked}
 
 -- ---- answers and refusals

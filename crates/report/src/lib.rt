@@ -1,11 +1,11 @@
 // The lines of a schedule's output: answers and refusals, then keys and tallies; or the bad line.
 use list::Reply;
-use moves::Said;
+use list_moves::Said;
 use page::put;
 use page::put_number;
-use party::Call;
-use party::Place;
-use party::State;
+use list_party::Call;
+use list_party::Place;
+use list_party::State;
 ghost use mathlib.Core.Path.{_≡_};
 ghost use Rattle.page.specs.Page.{page, Wrote};
 ghost use Rattle.list.specs.Answers.{replyIs};

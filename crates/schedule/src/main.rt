@@ -1,7 +1,7 @@
 // The schedule program: reads a schedule on standard input and writes what came of it to standard output.
 use libc::STDIN_FILENO;
 use libc::STDOUT_FILENO;
-use replay::replay;
+use list_replay::replay;
 ghost use mathlib.Core.Path.{_≡_};
 ghost use lib.ListN.{length};
 

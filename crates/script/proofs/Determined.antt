@@ -1,7 +1,7 @@
 -- The contracts of this crate leave one outcome each.
 -- Assumes nothing.
-use Rattle.outcome.specs.Outcome.{OneOutcome}
-use Rattle.outcome.proofs.Laws.{by-equation}
+use Rattle.logic.specs.Outcome.{OneOutcome}
+use Rattle.logic.proofs.Outcome.{by-equation}
 use Rattle.script.proofs.line_at.Reads as line-at
 use Rattle.script.proofs.ends_body.Reads as ends-body
 use Rattle.script.proofs.next_of.Reads as next-of

@@ -9,7 +9,8 @@ use native.Mathlib.Omega.{arith}
 use lib.ListN.{length}
 use lib.Dec.{eqb, leb}
 use borrow.Author.Tests.{leb-true, eqb-false}
-use Rattle.text.specs.Reading.{bytes, lost, word, only, numeral, numberAt}
+use Rattle.text.specs.Reading.{lost, word, only, numeral, numberAt}
+use Rattle.logic.specs.Quoted.{bytes}
 use Rattle.script.specs.Lines.{lineAt, endsBody, nextOf}
 use Rattle.script.specs.Head.{partiesLine, rowsOf, nodesLine, orderLine, firstLost, headOf}
 use Rattle.script.specs.Body.{mostLines, bodyFrom, badFrom}

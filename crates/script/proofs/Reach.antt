@@ -9,22 +9,8 @@ use native.Mathlib.Omega.{arith}
 use lib.ListN.{length}
 use lib.Dec.{eqb, ltb, leb}
 use borrow.Author.Tests.{ltb-true, le-ltb, eqb-false}
-use Rattle.text.specs.Reading.{
-  bytes,
-  lost,
-  byteAt,
-  placeAfter,
-  word,
-  only,
-  digitOf,
-  firstDigit,
-  nextDigit,
-  numberAt,
-  hexOf,
-  noPair,
-  pairAt,
-  fieldAt,
-}
+use Rattle.text.specs.Reading.{lost, byteAt, placeAfter, word, only, digitOf, firstDigit, nextDigit, numberAt, hexOf, noPair, pairAt, fieldAt}
+use Rattle.logic.specs.Quoted.{bytes}
 use Rattle.text.specs.declared.Number.{Number}
 use Rattle.script.specs.Lines.{lineEnd, verbAt, callLine, stepLine, endLine, lineAt, endsBody, nextOf}
 use Rattle.script.specs.Head.{partiesLine, nodesLine, orderLine}

@@ -3,7 +3,8 @@ use mathlib.Core.List.{List}
 use mathlib.Core.Bool.{cond, _&&_, _||_}
 use Prim.Native.Nat.{ℕ}
 use lib.Dec.{eqb, leb}
-use Rattle.text.specs.Reading.{bytes, lost, word, only, numeral, numberAt}
+use Rattle.text.specs.Reading.{lost, word, only, numeral, numberAt}
+use Rattle.logic.specs.Quoted.{bytes}
 use Rattle.text.specs.declared.Number.{Number}
 use Rattle.script.specs.Lines.{lineEnd}
 use Rattle.script.specs.declared.Head.{Head}

@@ -1,7 +1,7 @@
 -- The contracts of this crate leave one outcome each: one answer, for what is lent by & cannot change.
 -- Assumes nothing.
-use Rattle.outcome.specs.Outcome.{OneOutcome}
-use Rattle.outcome.proofs.Laws.{by-equation}
+use Rattle.logic.specs.Outcome.{OneOutcome}
+use Rattle.logic.proofs.Outcome.{by-equation}
 use Rattle.text.proofs.only.Reads as only
 use Rattle.text.proofs.word.Reads as word
 use Rattle.text.proofs.read_number.Reads as read-number

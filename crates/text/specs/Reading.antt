@@ -3,18 +3,11 @@
 use mathlib.Core.List.{List, [], _∷_}
 use mathlib.Core.Bool.{Bool, cond}
 use Prim.Native.Nat.{ℕ, _+_, _-_, _*_}
-use Prim.Native.Char.{code}
-use Prim.Native.String.{String, [] as none, _∷_ as _▸_}
 use lib.ListN.{length, getD}
 use lib.Dec.{eqb, ltb}
 use Rattle.text.specs.declared.Number.{Number}
 use Rattle.text.specs.declared.Pair.{Pair}
 use Rattle.text.specs.declared.Field.{Field}
-
--- the bytes of a quoted text
-abbrev pub bytes : String → List ℕ
-bytes none = []
-bytes (c ▸ s) = code c ∷ bytes s
 
 abbrev pub lost : ℕ
 lost = 18446744073709551615

@@ -3,7 +3,7 @@ use check::same;
 use libc::STDOUT_FILENO;
 use page::put;
 use page::put_number;
-use replay::replay;
+use list_replay::replay;
 ghost use mathlib.Core.Path.{_≡_};
 ghost use lib.ListN.{length};
 ghost use Prim.Native.Nat.{_≤_};

@@ -3,7 +3,7 @@
 use Prim.Native.Nat.{_≤_}
 use native.Mathlib.Omega.{arith}
 use Rattle.refusal.proofs.Told.{tests-told}
-use Rattle.rows.specs.Table.{tab}
+use Rattle.list_rows.specs.Table.{tab}
 use Rattle.list.specs.Engine.{setUpTests}
 use Rattle.list.proofs.Laws.{few-parties, set-up-accepts, set-up-refuses}
 use borrow.Author.Needs.{needs}

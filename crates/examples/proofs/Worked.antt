@@ -1,0 +1,27 @@
+-- The table of examples, computed by the checker.
+-- Assumes nothing.
+use Prim.{tt}
+use mathlib.Core.Path.{refl}
+use Rattle.list_rows.specs.Order.{rank}
+use Rattle.list_moves.specs.Moves.{prepareOf, onwardOf, landedAddOf, landedRemoveOf, landedContainsOf, walkOf, skipOf, addSwapOf, markOf, rereadOf, cleanOf, backOf, lookOf}
+use Rattle.list_unchecked.specs.Bare.{begunOf, bareCallOf, bareMoveOf}
+use Rattle.list_form.specs.Form.{kindsFit, keysFit, linksFit, recordFits, partiesFit, goodForm}
+use Rattle.list_chain.specs.Chain.{rises, liveFrom}
+use Rattle.field.specs.Layout.{numberIn}
+use Rattle.field.specs.Field.{fieldTests, loadOf}
+use Rattle.field.specs.Field as field
+use Rattle.list.specs.Engine.{setUpOf, callOf, moveOf, listOf}
+use Rattle.list.specs.Run.{run, replies}
+use Rattle.text.specs.Reading.{word, placeAfter, digitOf, nextDigit, hexOf, pairAt, fieldAt}
+use Rattle.page.specs.Page.{digits}
+use Rattle.report.specs.Lines.{callName, askedText, answerLine, refusedLine, heard, saidBy, numberLine, keyLines, tallyLines}
+use Rattle.script.specs.Lines.{verbAt, callLine, stepLine, endLine, lineAt}
+use Rattle.script.specs.Head.{rowsOf, partiesLine, nodesLine, orderLine, firstLost, headOf}
+use Rattle.script.specs.Body.{mostLines, bodyFrom, endBad, lastBad, badFrom, firstBad}
+use Rattle.list_play.specs.Turns.{loaded, lineTurn}
+use Rattle.list_replay.specs.Output.{lineSays, saysFrom, lastOf, closing, outputBy}
+use Rattle.examples.specs.Table.{Worked}
+
+pub worked : Worked
+unfolding word placeAfter digitOf nextDigit hexOf pairAt fieldAt digits callName askedText answerLine refusedLine heard saidBy numberLine keyLines tallyLines verbAt callLine stepLine endLine lineAt rowsOf partiesLine nodesLine orderLine firstLost headOf mostLines bodyFrom endBad lastBad badFrom firstBad loaded lineTurn lineSays saysFrom lastOf closing outputBy setUpOf callOf moveOf rises liveFrom goodForm kindsFit keysFit linksFit recordFits partiesFit bareCallOf begunOf bareMoveOf walkOf onwardOf landedAddOf landedRemoveOf landedContainsOf prepareOf skipOf addSwapOf markOf rereadOf cleanOf backOf lookOf rank numberIn fieldTests loadOf field.fieldAt run replies listOf
+worked = (refl, (refl, (refl, (refl, (refl, (refl, (refl, (refl, (refl, (refl, (refl, tt)))))))))))

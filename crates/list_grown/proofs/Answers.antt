@@ -1,0 +1,190 @@
+-- What each answer means, from what holds since its call and what is known where it is given.
+-- Assumes nothing.
+use Prim.Native.Nat.{ℕ, _+_, _<_}
+use mathlib.Core.Path.{_≡_, refl, sym, ap, subst, _∙_}
+use mathlib.Core.Logic.{_⊎_, inl, inr, ⊎-elim}
+use mathlib.Core.List.{[], _∷_, _++_, append-nil}
+use mathlib.Core.Bool.{true, false, true≢false}
+use lib.ListN.{length}
+use lib.Seq.{getD-set-same}
+use Rattle.refusal.specs.Answer.{accepted, passed}
+use Rattle.logic.proofs.Tests.{and-left, and-right, and-both}
+use Rattle.list_party.specs.declared.Call.{Call}
+use Rattle.list_party.specs.declared.Call.the-variants.{Add, Remove, Contains}
+use Rattle.list_party.specs.declared.Party.{Party}
+use Rattle.list_party.specs.Party.{blank, starting, looking}
+use Rattle.list_moves.specs.declared.Said.{Said}
+use Rattle.list_moves.specs.declared.Said.the-variants.{Yes, No}
+use Rattle.list_unchecked.specs.Bare.{Machine, partyOf, ownRow, takenThen, begunOf, bareCallOf, bareMoveOf}
+use Rattle.list_form.specs.Form.{isRemove, isIdle}
+use Rattle.list.specs.Engine.{liveKeys, callNamed, callOf, moveTests}
+use Rattle.list.specs.Run.{calls, quiet, turnOf, run}
+use Rattle.list_world.proofs.Live.{LiveRank}
+use Rattle.logic.specs.Keys.{has}
+use Rattle.list_grown.specs.History.{History, keyFits, isAccepted, accepts, acceptsAll, Accepted, start, grown}
+use Rattle.list_grown.specs.Answers.{Asked, call, called, found, Answered, Present, Excused, TakenOut, Answers}
+use Rattle.list_grown.proofs.Machine.{worldOf}
+use Rattle.logic.proofs.Cases.{by-test}
+use Rattle.list_grown.proofs.Listing.{keys-live, live-keys}
+use Rattle.list_grown.proofs.Replies.{Told, saidBy, move-reply}
+use Rattle.list_grown.proofs.Track.{Starts, removes, asks-for, no-missed, track-starts}
+use Rattle.list_grown.proofs.Events.{move-is, move-tests, move-asked, call-is, call-tests}
+use Rattle.list_grown.proofs.Grown.{Healthy, inside, healthy-turn, healthy-along}
+use Rattle.list_grown.proofs.SetUp.{none, set-up}
+use Rattle.list_grown.proofs.Serves.{Serves, walk, look, add-told, found-told, look-told, cut-told}
+use Rattle.list_grown.proofs.Since.{Sometime, Serving, Marks, Following, Absent, serving-since, following-since}
+
+-- ---- two histories, one after the other
+
+run-both : (early late : History) (m : Machine) → run m (early ++ late) ≡ run (run m early) late
+unfolding run
+run-both [] late m = refl
+run-both (first ∷ early) late m = run-both early late (turnOf m first .memory)
+
+accepted-both : (early late : History) (m : Machine) → Accepted m (early ++ late) → Accepted m early × Accepted (run m early) late
+unfolding run acceptsAll
+accepted-both [] late m ok = (refl, ok)
+accepted-both (first ∷ early) late m ok =
+    let m′ = turnOf m first .memory in
+    let rest = accepted-both early late m′ (and-right (accepts m first) (acceptsAll m′ (early ++ late)) ok) in
+    (and-both (and-left (accepts m first) (acceptsAll m′ (early ++ late)) ok) (rest .0), rest .1)
+
+-- ---- the call
+
+module _ (m : Machine) (i k : ℕ) where
+  call-serves : (name : Call) → i < length (m .state .parties) → Serving i k name (bareCallOf m i name k)
+  unfolding bareCallOf begunOf
+  call-serves Add h busy = rw (getD-set-same (m .state .parties) i (starting Add k (ownRow (m .state) (partyOf m i))) blank h) (walk refl)
+  call-serves Remove h busy = rw (getD-set-same (m .state .parties) i (starting Remove k (ownRow (m .state) (partyOf m i))) blank h) (walk refl)
+  call-serves Contains h busy = rw (getD-set-same (m .state .parties) i (looking (partyOf m i) Contains k 1) blank h) look
+
+  -- a REMOVE or a CONTAINS
+  call-starts : (code : ℕ) → (code ≡ 1) ⊎ (code ≡ 2) → Starts m i k (bareCallOf m i (callNamed code) k)
+  unfolding bareCallOf begunOf
+  call-starts code (inl e) = rw e (removes (ownRow (m .state) (partyOf m i)) (takenThen (m .state) (partyOf m i)))
+  call-starts code (inr e) = rw e asks-for
+
+  call-leaves : (code : ℕ) → accepts m (calls i code k) ≡ true → turnOf m (calls i code k) .memory ≡ bareCallOf m i (callNamed code) k
+  call-leaves code e =
+      let ok : isAccepted (quiet (callOf m i code k .answer)) ≡ true =
+      and-right (keyFits (calls i code k)) (isAccepted (quiet (callOf m i code k .answer))) e in
+      ap (λ l. l .memory) (call-is m i code k (call-tests m i code k ok))
+
+-- ---- what the states since the call make of the answer
+
+taken-out : (a : Asked) → Sometime (Marks (a .party) (a .key) Remove) (called a) (a .since) → TakenOut a
+taken-out a p = record { early = p .early; late = p .late; split = rw (p .holds .1) at (p .split); mark = p .holds .2 }
+
+was-absent : (a : Asked) → Sometime (Absent (a .party) (a .key)) (called a) (a .since) → Excused a
+was-absent a p = record { early = p .early; late = p .event ∷ p .late; split = p .split; absent = p .holds }
+
+-- ---- from the call to the answer
+
+module _ (a : Asked) (said : Said) (w : Answered a said) where
+  abbrev i : ℕ
+  i = a .party
+
+  abbrev k : ℕ
+  k = a .key
+
+  -- what the call finds, and what it leaves
+  abbrev m : Machine
+  m = grown (a .table) (a .parties) (a .before)
+
+  abbrev m′ : Machine
+  m′ = turnOf m (call a) .memory
+
+  all : Accepted (start (a .table) (a .parties)) (a .before) × Accepted m (call a ∷ a .since)
+  all = accepted-both (a .before) (call a ∷ a .since) (start (a .table) (a .parties)) (w .grows .accepted)
+
+  this : accepts m (call a) ≡ true
+  unfolding acceptsAll
+  this = and-left (accepts m (call a)) (acceptsAll m′ (a .since)) (all .1)
+
+  rest : Accepted m′ (a .since)
+  unfolding acceptsAll
+  rest = and-right (accepts m (call a)) (acceptsAll m′ (a .since)) (all .1)
+
+  called-is : called a ≡ m′
+  unfolding run
+  called-is = run-both (a .before) (call a ∷ []) (start (a .table) (a .parties))
+
+  found-is : found a ≡ run m′ (a .since)
+  unfolding run
+  found-is = run-both (a .before) (call a ∷ a .since) (start (a .table) (a .parties))
+
+  healthy : Healthy none (a .parties) m
+  healthy = healthy-along none (a .parties) (a .before) (start (a .table) (a .parties)) (set-up (a .table) (a .parties) (w .grows .set) .healthy) (all .0)
+
+  healthy′ : Healthy none (a .parties) m′
+  healthy′ = healthy-turn none (a .parties) m (call a) healthy this
+
+  known : i < length (m .state .parties)
+  known = inside none (a .parties) m (call a) healthy this
+
+  leaves : m′ ≡ bareCallOf m i (callNamed (a .code)) k
+  leaves = call-leaves m i k (a .code) this
+
+  -- ---- where the answer is given
+
+  abbrev q : Party
+  q = partyOf (found a) i
+
+  sound : Healthy none (a .parties) (found a)
+  sound = rw found-is (healthy-along none (a .parties) (a .since) m′ healthy′ rest)
+
+  passes : moveTests (found a) i ≡ passed
+  passes = move-tests (found a) i (rw (w .answer))
+
+  busy : isIdle (q .place) ≡ false
+  busy = move-asked (found a) i passes .1
+
+  said-is : saidBy (found a) i ≡ said
+  unfolding bareMoveOf
+  said-is = let e : accepted (saidBy (found a) i) ≡ accepted said = sym (ap (λ l. l .answer) (move-is (found a) i passes)) ∙ w .answer in cc
+
+  told : Told (worldOf none (found a)) q (q .place) said
+  told = subst (Told (worldOf none (found a)) q (q .place)) said-is (move-reply none (found a) (sound .inv) i busy)
+
+  -- ---- the states between
+
+  -- where the answer is given a REMOVE may have marked; any other call is still served
+  marks-or-serves : (name : Call) → callNamed (a .code) ≡ name → Sometime (Marks i k name) (called a) (a .since) ⊎ Serves q k name (q .place)
+  marks-or-serves name is = ⊎-elim (λ p. inl (rw called-is p)) (λ r. inr ((rw (← found-is) at r) busy))
+      (serving-since i k (a .parties) name (a .since) m′ healthy′ rest (w .waits) (rw (leaves, is) (call-serves m i k name known)))
+
+  serves : (name : Call) → callNamed (a .code) ≡ name → isRemove name ≡ false → Serves q k name (q .place)
+  serves name is other = ⊎-elim (λ p. absurd (true≢false (sym (p .holds .0) ∙ other))) (λ r. r) (marks-or-serves name is)
+
+  starts : (a .code ≡ 1) ⊎ (a .code ≡ 2) → Starts m i k m′
+  starts e = rw leaves (call-starts m i k (a .code) e)
+
+  absent-or-follows : (a .code ≡ 1) ⊎ (a .code ≡ 2) → Sometime (Absent i k) (called a) (a .since) ⊎ Following i k (found a)
+  absent-or-follows e = ⊎-elim (λ p. inl (rw called-is p)) (λ r. inr (rw found-is r))
+      (following-since i k (a .parties) (a .since) m′ healthy′ rest (w .waits)
+      (λ busy l. track-starts none m (healthy .inv) i known (starts e) (healthy′ .inv) l))
+
+  -- ---- what the answer says
+
+  live-present : LiveRank (worldOf none (found a)) (3 + k) → Present a
+  live-present live = live-keys none (found a) (sound .inv) k live
+
+  -- a party that follows a live key does not say no
+  is-absent : Following i k (found a) → said ≡ No → has k (liveKeys (found a)) ≡ false
+  is-absent follows e = by-test (λ b. b ≡ false) (has k (liveKeys (found a)))
+      (λ is. absurd (no-missed none (found a) (sound .inv) i (follows busy (keys-live none (found a) (sound .inv) k is)) (said-is ∙ e))) (λ is. refl)
+
+  excused : (a .code ≡ 1) ⊎ (a .code ≡ 2) → said ≡ No → Excused a
+  excused code e = ⊎-elim (was-absent a)
+      (λ follows. record { early = a .since; late = []; split = append-nil (a .since); absent = rw (called-is, ← found-is) (is-absent follows e) })
+      (absent-or-follows code)
+
+pub answers : Answers
+answers = record {
+  add-yes = λ a e w. add-told none (found a) (told a Yes w) (serves a Yes w Add (ap callNamed e) refl);
+  add-no = λ a e w. live-present a No w (found-told none (found a) (told a No w) (serves a No w Add (ap callNamed e) refl));
+  remove-yes = λ a e w. ⊎-elim (taken-out a) (λ r. absurd (cut-told none (found a) (told a Yes w) r)) (marks-or-serves a Yes w Remove (ap callNamed e));
+  remove-no = λ a e w. excused a No w (inl e) refl;
+  contains-yes = λ a e w. live-present a Yes w (look-told none (found a) (told a Yes w) (serves a Yes w Contains (ap callNamed e) refl));
+  contains-no = λ a e w. excused a No w (inr e) refl;
+}

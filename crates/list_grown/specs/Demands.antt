@@ -1,0 +1,109 @@
+-- What is proved of every list grown from set-up: demands 2 and 3, and what they stand on. docs/PROOFS.md says each in words.
+use mathlib.Core.Path.{_≡_}
+use mathlib.Core.List.{List}
+use mathlib.Core.Bool.{true, false}
+use mathlib.Core.Logic.{_↔_}
+use Prim.Native.Nat.{ℕ, _+_, _-_, _*_, _<_, _≤_}
+use lib.Dec.{ltb}
+use lib.ListN.{length}
+use Rattle.refusal.specs.Answer.{accepted, left, passed, refusing, leaving}
+use Rattle.list_rows.specs.Table.{Table, keyAt, backAt, isSplice}
+use Rattle.list_party.specs.declared.Party.{Party}
+use Rattle.list_unchecked.specs.Bare.{Machine, partyOf}
+use Rattle.list_form.specs.Form.{goodForm}
+use Rattle.list_chain.specs.Chain.{isLive}
+use Rattle.logic.specs.Sum.{oneIf}
+use Rattle.list.specs.Engine.{badTable, liveKeys, placesWith, listOf}
+use Rattle.list.specs.Run.{Event, turnOf, run}
+use Rattle.logic.specs.Keys.{Rising, has, placed, without}
+use Rattle.logic.specs.Sum.{sum}
+use Rattle.list_grown.specs.History.{History, accepts, Accepted, heeded, keysFit, start, Grows, grown}
+use Rattle.list_grown.specs.Deeds.{Deed, called, read, added, marked, cleaned, lost, deedOf, countsOf}
+
+-- ---- refused events
+
+-- they leave no trace: a history with keys of 32 bits leaves the machine that its accepted events alone leave
+abbrev pub Heeded : Type 0
+Heeded = (m : Machine) (history : History) → keysFit history ≡ true → (run m history ≡ run m (heeded m history)) × Accepted m (heeded m history)
+
+-- ---- good form
+
+-- whatever has happened since set-up, the state has good form, and the columns have a length that the engine takes
+abbrev pub Kept : Type 0
+Kept = (t : Table) (parties : ℕ) (history : History) → Grows t parties history →
+    (goodForm (grown t parties history) ≡ true) × (badTable (grown t parties history .table) ≡ false)
+
+-- ---- the listing
+
+-- a party that has not published its own row holds it
+abbrev pub Holds : Party → ℕ → Type 0
+Holds q row = (q .unpublished ≡ true) × (q .own ≡ row)
+
+-- taken, and held by no party
+abbrev pub Published : Machine → ℕ → Type 0
+Published m row = (row < m .state .taken) × ((party : ℕ) → Holds (partyOf m party) row → ⊥)
+
+-- a published item with this key that nobody has removed
+pub record LiveRow (m : Machine) (key : ℕ) : Type 0 where
+  pub row : ℕ
+  pub published : Published m row
+  pub live : isLive (m .table) row ≡ true
+  pub keyed : keyAt (m .table) row ≡ key
+
+-- of the refusals of a listing only 10 is left; what is listed rises, and is exactly the keys of the live rows
+abbrev pub Listed : Type 0
+Listed = (t : Table) (parties : ℕ) (history : History) → Grows t parties history →
+    let m = grown t parties history in
+    ((places : List ℕ) → listOf m places
+    ≡ leaving (refusing (ltb (length places) (length (liveKeys m))) 10 passed) places (left (placesWith (liveKeys m) places) (accepted (length (liveKeys m)))))
+    × Rising (liveKeys m)
+    × ((key : ℕ) → (has key (liveKeys m) ≡ true) ↔ LiveRow m key)
+
+-- ---- the second demand
+
+-- what an event does to the live keys, given as the lists before and after it
+abbrev pub Changes : Deed → (before after : List ℕ) → Type 0
+Changes called before after = after ≡ before
+Changes read before after = after ≡ before
+Changes (added key) before after = (has key before ≡ false) × (after ≡ placed key before)
+Changes (marked key) before after = (has key before ≡ true) × (after ≡ without key before)
+Changes cleaned before after = after ≡ before
+Changes lost before after = after ≡ before
+
+-- every accepted event after every accepted history: a won add swap brings in its key alone, a won mark swap takes out its key alone
+abbrev pub Demand2 : Type 0
+Demand2 = (t : Table) (parties : ℕ) (history : History) (event : Event) → Grows t parties history →
+    let m = grown t parties history in
+    accepts m event ≡ true → Changes (deedOf m event) (liveKeys m) (liveKeys (turnOf m event .memory))
+
+-- ---- the third demand
+
+-- for every number of parties that set-up accepts, which is 1 to 16
+abbrev pub Demand3 : Type 0
+Demand3 = (t : Table) (parties : ℕ) (history : History) → Grows t parties history →
+    let m = grown t parties history in
+    let counts = countsOf (start t parties) history in
+    (counts .lost ≤ (parties - 1) * counts .won)
+    × (counts .won ≤ counts .ins + 2 * counts .outs)
+    × (m .state .moves ≡ counts .moves)
+    × (m .state .won ≡ counts .won)
+    × (m .state .lost ≡ counts .lost)
+
+-- ---- the rows
+
+-- how many rows the parties hold unpublished
+abbrev pub rowsHeld : Machine → ℕ
+rowsHeld m = sum (λ party. oneIf (partyOf m party .unpublished)) (m .state .count)
+
+-- document 01, "The moves", of T: as many rows are taken as there are ends, add swaps and mark swaps won, and rows held
+abbrev pub Rows : Type 0
+Rows = (t : Table) (parties : ℕ) (history : History) → Grows t parties history →
+    let m = grown t parties history in
+    let counts = countsOf (start t parties) history in
+    m .state .taken ≡ 4 + counts .adds + counts .marks + rowsHeld m
+
+-- document 01, "Rows and parties": only a splice has a back, and 0 means none
+abbrev pub Backs : Type 0
+Backs = (t : Table) (parties : ℕ) (history : History) → Grows t parties history →
+    let m = grown t parties history in
+    (row : ℕ) → isSplice (m .table) row ≡ false → backAt (m .table) row ≡ 0

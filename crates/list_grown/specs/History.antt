@@ -1,0 +1,61 @@
+-- Histories: the events after a set-up, and which of them the engine accepts.
+use mathlib.Core.Path.{_≡_}
+use mathlib.Core.List.{List, [], _∷_}
+use mathlib.Core.Bool.{Bool, true, false, cond, _&&_}
+use Prim.Native.Nat.{ℕ}
+use lib.Dec.{ltb}
+use Rattle.refusal.specs.Answer.{Answer, accepted, refused, passed}
+use Rattle.list_rows.specs.Table.{Table}
+use Rattle.list_moves.specs.declared.Said.{Said}
+use Rattle.list_unchecked.specs.Bare.{Machine}
+use Rattle.list.specs.Engine.{setUpOf}
+use Rattle.list.specs.Run.{Event, calls, moves, turnOf, run}
+
+-- the first event comes first
+abbrev pub History : Type 0
+History = List Event
+
+-- the key of a call is a number of 32 bits, as everywhere in the code
+abbrev pub keyFits : Event → Bool
+keyFits (calls party code key) = ltb key 4294967296
+keyFits (moves party) = true
+
+abbrev pub isAccepted : Answer Said → Bool
+isAccepted (accepted said) = true
+isAccepted (refused number) = false
+
+-- the key fits, and the engine does not refuse the event
+abbrev pub accepts : Machine → Event → Bool
+accepts m event = keyFits event && isAccepted (turnOf m event .answer)
+
+-- it accepts every event of a history
+unfoldable pub acceptsAll : Machine → History → Bool
+acceptsAll m [] = true
+acceptsAll m (first ∷ rest) = accepts m first && acceptsAll (turnOf m first .memory) rest
+
+abbrev pub Accepted : Machine → History → Type 0
+Accepted m history = acceptsAll m history ≡ true
+
+-- the events of a history that are accepted; a refused one is passed over
+unfoldable pub heeded : Machine → History → History
+heeded m [] = []
+heeded m (first ∷ rest) = cond (accepts m first) (first ∷ heeded (turnOf m first .memory) rest) (heeded m rest)
+
+unfoldable pub keysFit : History → Bool
+keysFit [] = true
+keysFit (first ∷ rest) = keyFits first && keysFit rest
+
+-- ---- lists grown from set-up
+
+-- what set-up lays down in any four columns
+abbrev pub start : Table → (parties : ℕ) → Machine
+start t parties = setUpOf t parties .memory
+
+-- set-up and every event of the history are accepted
+pub record Grows (t : Table) (parties : ℕ) (history : History) : Type 0 where
+  pub set : setUpOf t parties .answer ≡ passed
+  pub accepted : Accepted (start t parties) history
+
+-- the list then
+abbrev pub grown : Table → (parties : ℕ) → History → Machine
+grown t parties history = run (start t parties) history

@@ -1,0 +1,50 @@
+-- The turn of a line: what it asks of the list, what that leaves, and the answer (document 01, "The schedule program").
+use mathlib.Core.List.{List, [], _∷_}
+use Prim.Native.Nat.{ℕ}
+use Rattle.refusal.specs.Answer.{Answer, accepted, refused, Left, left, leaving}
+use Rattle.list_moves.specs.declared.Said.{Said}
+use Rattle.list_unchecked.specs.Bare.{Machine, bareCallOf, bareMoveOf}
+use Rattle.list_form.specs.Form.{rowsIn}
+use Rattle.field.specs.Field.{loadOf}
+use Rattle.list.specs.Engine.{callNamed, callAsks, moveAsks, accepting}
+use Rattle.list.specs.Run.{Event, calls, moves, going}
+use Rattle.script.specs.declared.CallLine.{CallLine}
+use Rattle.script.specs.declared.Line.{Line}
+use Rattle.script.specs.declared.Line.the-variants.{Call, Step, End, Bad}
+
+-- ---- one event
+
+-- how an engine takes an event: `turnOf` of `list`, which tests everything, or `plainTurn`
+abbrev pub TakesEvent : Type 0
+TakesEvent = Machine → Event → Left Machine Said
+
+-- an event without the tests for 1 and 3
+unfoldable pub plainTurn : TakesEvent
+plainTurn m (calls party code key) =
+    leaving (callAsks (m .state) (rowsIn (m .table)) party code) m (left (bareCallOf m party (callNamed code) key) going)
+plainTurn m (moves party) = leaving (moveAsks (m .state) party) m (accepting (bareMoveOf m party))
+
+-- ---- one line
+
+-- the bytes of the field, as they stand in the line
+abbrev pub fieldIn : CallLine → List ℕ
+fieldIn c = c .b0 ∷ c .b1 ∷ c .b2 ∷ c .b3 ∷ []
+
+-- the party that a line names; where it names none, 0
+abbrev pub partyIn : Line → ℕ
+partyIn (Call c) = c .party
+partyIn (Step party next) = party
+partyIn (End count next) = 0
+partyIn Bad = 0
+
+-- the load of the key comes before the call; what refuses it refuses the line
+unfoldable pub loaded : TakesEvent → Machine → CallLine → Answer ℕ → Left Machine Said
+loaded turn m c (accepted key) = turn m (calls (c .party) (c .code) key)
+loaded turn m c (refused number) = left m (refused number)
+
+-- the turn of a line; the order is the code of the byte order that the head names
+unfoldable pub lineTurn : TakesEvent → (order : ℕ) → Machine → Line → Left Machine Said
+lineTurn turn order m (Call c) = loaded turn m c (loadOf (fieldIn c) 0 order)
+lineTurn turn order m (Step party next) = turn m (moves party)
+lineTurn turn order m (End count next) = left m going
+lineTurn turn order m Bad = left m going

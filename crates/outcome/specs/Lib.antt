@@ -1,2 +1,0 @@
--- What it means that a contract leaves no choice.
-pub mod Outcome

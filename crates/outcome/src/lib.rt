@@ -1,1 +1,0 @@
-// What it means that a contract leaves one outcome only: definitions alone, in specs/.

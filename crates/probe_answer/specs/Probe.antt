@@ -1,0 +1,101 @@
+-- The probe: one set-up, call, move or listing by the checked entry points on the state that came, and all that it leaves.
+use Prim.{Unit}
+use mathlib.Core.Path.{_≡_}
+use mathlib.Core.List.{List, [], _∷_, _++_}
+use mathlib.Core.Bool.{cond}
+use Prim.Native.Nat.{ℕ, zero, suc}
+use lib.ListN.{replicate}
+use Rattle.refusal.specs.Answer.{Answer, accepted, refused, Left, Tests}
+use Rattle.list_moves.specs.declared.Said.{Said}
+use Rattle.list_moves.specs.declared.Said.the-variants.{Nothing, Yes, No}
+use Rattle.list_rows.specs.Table.{Table}
+use Rattle.list_unchecked.specs.Bare.{Machine, machine}
+use Rattle.list.specs.Engine.{setUpOf, callOf, moveOf, listOf}
+use Rattle.probe_layout.specs.Bytes.{low, lows}
+use Rattle.probe_layout.specs.Layout.{whatIn, partyIn, codeIn, keyIn, placesIn, machineIn, fits, machineBytes}
+use Rattle.probe_answer.specs.declared.Found.{Found}
+
+-- what the probe shows: a refusal's number or 0, the answer, how many keys were listed, the places, and the state
+pub record Seen : Type 0 where
+  pub number : ℕ
+  pub answer : ℕ
+  pub listed : ℕ
+  pub places : List ℕ
+  pub after : Machine
+
+-- the places before a listing, each 0xEEEEEEEE
+abbrev pub unwritten : ℕ → List ℕ
+unwritten places = replicate places 4008636142
+
+-- 0 none, 1 yes, 2 no
+abbrev pub saidNumber : Said → ℕ
+saidNumber Nothing = 0
+saidNumber Yes = 1
+saidNumber No = 2
+
+-- the number of a refusal; of an accepted answer, 0
+abbrev pub refusalIn : {A : Type 0} → Answer A → ℕ
+refusalIn (accepted value) = 0
+refusalIn (refused number) = number
+
+-- what is said by a move; a refusal says nothing
+abbrev pub saidIn : Answer Said → ℕ
+saidIn (accepted said) = saidNumber said
+saidIn (refused number) = 0
+
+-- how many keys a listing has listed; a refused one, none
+abbrev pub listedIn : Answer ℕ → ℕ
+listedIn (accepted count) = count
+listedIn (refused number) = 0
+
+-- of a set-up the state that it makes, and if it is refused the one that came
+abbrev pub handedBack : (came made : Machine) → Tests → Machine
+handedBack came made (accepted done) = made
+handedBack came made (refused number) = came
+
+-- ---- what is seen of each outcome
+
+unfoldable pub setUpShown : (came : Machine) (places : List ℕ) → Left Machine (Unit {0}) → Seen
+setUpShown came places done =
+    record { number = refusalIn (done .answer); answer = 0; listed = 0; places = places; after = handedBack came (done .memory) (done .answer) }
+
+unfoldable pub callShown : (places : List ℕ) → Left Machine (Unit {0}) → Seen
+callShown places done = record { number = refusalIn (done .answer); answer = 0; listed = 0; places = places; after = done .memory }
+
+unfoldable pub moveShown : (places : List ℕ) → Left Machine Said → Seen
+moveShown places done =
+    record { number = refusalIn (done .answer); answer = saidIn (done .answer); listed = 0; places = places; after = done .memory }
+
+unfoldable pub listShown : Machine → Left (List ℕ) ℕ → Seen
+listShown m done =
+    record { number = refusalIn (done .answer); answer = 0; listed = listedIn (done .answer); places = done .memory; after = m }
+
+-- ---- the four questions
+
+abbrev pub seenBy : (what : ℕ) → Machine → (party code key : ℕ) → List ℕ → Seen
+seenBy zero m party code key places = setUpShown m places (setUpOf (m .table) party)
+seenBy (suc zero) m party code key places = callShown places (callOf m party code key)
+seenBy (suc (suc zero)) m party code key places = moveShown places (moveOf m party)
+seenBy (suc (suc (suc more))) m party code key places = listShown m (listOf m places)
+
+unfoldable pub seenOf : List ℕ → Seen
+seenOf bytes =
+    seenBy (whatIn bytes) (machineIn bytes) (partyIn bytes) (codeIn bytes) (keyIn bytes) (unwritten (placesIn bytes))
+
+-- what the code has found, with the table and the places that it leaves
+abbrev pub seenIs : Table → List ℕ → Found → Seen
+seenIs t places found =
+    record { number = found .number; answer = found .answer; listed = found .listed; places = places; after = machine t (found .state) }
+
+-- it comes to this, whatever table and places are left
+abbrev pub FoundSo : Found → (Table → List ℕ → Seen) → Type 0
+FoundSo found seen = (t : Table) (places : List ℕ) → seenIs t places found ≡ seen t places
+
+-- ---- bytes in, bytes out
+
+unfoldable pub seenBytes : Seen → List ℕ
+seenBytes seen = seen .number ∷ seen .answer ∷ low 2 (seen .listed) ++ lows 4 (seen .places) ++ machineBytes (seen .after)
+
+-- what does not fit the layout gives the one byte 255
+unfoldable pub probeOf : List ℕ → List ℕ
+probeOf bytes = cond (fits bytes) (seenBytes (seenOf bytes)) (255 ∷ [])
