@@ -3,9 +3,9 @@
 use Prim.{tt}
 use mathlib.Core.Path.{refl}
 use Rattle.list_rows.specs.Order.{rank}
-use Rattle.list_moves.specs.Moves.{prepareOf, onwardOf, landedAddOf, landedRemoveOf, landedContainsOf, walkOf, skipOf, addSwapOf, markOf, rereadOf, cleanOf, backOf, lookOf}
-use Rattle.list_unchecked.specs.Bare.{begunOf, bareCallOf, bareMoveOf}
-use Rattle.list_form.specs.Form.{kindsFit, keysFit, linksFit, recordFits, partiesFit, goodForm}
+use Rattle.list_moves.specs.Moves.{prepareOf, onwardOf, landedAddOf, landedUnmarkedOf, landedMarkedOf, landedRemoveOf, landedContainsOf, walkOf, skipOf, addSwapOf, markOf, rereadOf, cleanOf, backOf, lookOnOf, lookOf}
+use Rattle.list_unchecked.specs.Unchecked.{begunOf, uncheckedCall, uncheckedMove}
+use Rattle.list_form.specs.Form.{kindsFit, keysFit, linksFit, recordFits, partiesFit, goodRows, goodParties, goodForm}
 use Rattle.list_chain.specs.Chain.{rises, liveFrom}
 use Rattle.field.specs.Layout.{numberIn}
 use Rattle.field.specs.Field.{fieldTests, loadOf}
@@ -23,5 +23,5 @@ use Rattle.list_replay.specs.Output.{lineSays, saysFrom, lastOf, closing, outpu
 use Rattle.examples.specs.Table.{Worked}
 
 pub worked : Worked
-unfolding word placeAfter digitOf nextDigit hexOf pairAt fieldAt digits callName askedText answerLine refusedLine heard saidBy numberLine keyLines tallyLines verbAt callLine stepLine endLine lineAt rowsOf partiesLine nodesLine orderLine firstLost headOf mostLines bodyFrom endBad lastBad badFrom firstBad loaded lineTurn lineSays saysFrom lastOf closing outputBy setUpOf callOf moveOf rises liveFrom goodForm kindsFit keysFit linksFit recordFits partiesFit bareCallOf begunOf bareMoveOf walkOf onwardOf landedAddOf landedRemoveOf landedContainsOf prepareOf skipOf addSwapOf markOf rereadOf cleanOf backOf lookOf rank numberIn fieldTests loadOf field.fieldAt run replies listOf
+unfolding word placeAfter digitOf nextDigit hexOf pairAt fieldAt digits callName askedText answerLine refusedLine heard saidBy numberLine keyLines tallyLines verbAt callLine stepLine endLine lineAt rowsOf partiesLine nodesLine orderLine firstLost headOf mostLines bodyFrom endBad lastBad badFrom firstBad loaded lineTurn lineSays saysFrom lastOf closing outputBy setUpOf callOf moveOf rises liveFrom goodRows goodParties goodForm kindsFit keysFit linksFit recordFits partiesFit uncheckedCall begunOf uncheckedMove walkOf onwardOf landedAddOf landedUnmarkedOf landedMarkedOf landedRemoveOf landedContainsOf prepareOf skipOf addSwapOf markOf rereadOf cleanOf backOf lookOnOf lookOf rank numberIn fieldTests loadOf field.fieldAt run replies listOf
 worked = (refl, (refl, (refl, (refl, (refl, (refl, (refl, (refl, (refl, (refl, (refl, tt)))))))))))

@@ -7,8 +7,8 @@ use lib.ListN.{length, take, replicate}
 use Rattle.refusal.specs.Answer.{Answer, accepted, Left, left}
 use Rattle.list_party.specs.declared.Place.{Place}
 use Rattle.list_party.specs.declared.Party.{Party}
-use Rattle.list_moves.specs.declared.Said.{Said}
-use Rattle.list_unchecked.specs.Bare.{Machine}
+use Rattle.calls.specs.declared.Said.{Said}
+use Rattle.list_unchecked.specs.Unchecked.{Machine}
 use Rattle.list.specs.Engine.{listOf}
 use Rattle.list.specs.Run.{Event, calls, moves, run, replies, going, fresh}
 use Rattle.field.specs.Field.{loadOf}
@@ -52,9 +52,9 @@ stageOf m stage =
       places = placesOf (take (after .state .count) (after .state .parties));
       listing = listOf after (replicate (length (stage .listing .memory)) 0);
       taken = after .state .taken;
-      moved = after .state .moves;
-      won = after .state .won;
-      lost = after .state .lost;
+      moved = after .state .tallies .moves;
+      won = after .state .tallies .won;
+      lost = after .state .tallies .lost;
     }
 
 -- each stage starts where the one before has ended

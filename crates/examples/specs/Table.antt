@@ -2,7 +2,7 @@
 use mathlib.Core.List.{List, [], _∷_, _++_}
 use Prim.Native.Nat.{ℕ}
 use Rattle.refusal.specs.Answer.{accepted}
-use Rattle.list_party.specs.declared.Call.the-variants.{Add, Remove}
+use Rattle.calls.specs.declared.Call.the-variants.{Add, Remove}
 use Rattle.list_party.specs.declared.Place.{Place}
 use Rattle.list_party.specs.declared.Place.the-variants.{Idle, Walk, Mark, Reread, Clean, Back}
 use Rattle.list.specs.Run.{calls, moves, going, yes, no}

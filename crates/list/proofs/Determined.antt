@@ -11,16 +11,16 @@ use Rattle.refusal.specs.Answer.{Left, left}
 use Rattle.refusal.proofs.Told.{verdicts-differ}
 use Rattle.list_rows.specs.Table.{Table, tab}
 use Rattle.list_party.specs.declared.State.{State}
-use Rattle.list_moves.specs.declared.Said.{Said}
-use Rattle.list_unchecked.specs.Bare.{Machine}
+use Rattle.list_unchecked.specs.Unchecked.{Machine}
 use Rattle.list.specs.declared.After.{After}
-use Rattle.list.specs.declared.Reply.{Reply}
+use Rattle.calls.specs.declared.Reply.{Reply}
 use Rattle.list.specs.declared.Stepped.{Stepped}
 use Rattle.list.specs.declared.Listed.{Listed}
 use Rattle.list.specs.Answers.{afterIs, stepIs, listedIs}
-use Rattle.list.proofs.Promises.{replies-differ, listed-differ}
+use Rattle.calls.specs.Words.{Word}
+use Rattle.calls.proofs.Told.{replies-differ}
+use Rattle.list.proofs.Promises.{listed-differ}
 use Rattle.list.proofs.set_up.Reads as set-up
-use Rattle.list.proofs.call_named.Reads as call-named
 use Rattle.list.proofs.call_asks.Reads as call-asks
 use Rattle.list.proofs.call.Reads as call
 use Rattle.list.proofs.move_asks.Reads as move-asks
@@ -46,9 +46,9 @@ step-of state reply = record { state = state; reply = reply }
 pub step-told : (t₁ t₂ : Table) (state₁ state₂ : State) (reply₁ reply₂ : Reply) → stepIs t₁ (step-of state₁ reply₁) ≡ stepIs t₂ (step-of state₂ reply₂) →
     _≡_ {A = Table × Stepped} (t₁, step-of state₁ reply₁) (t₂, step-of state₂ reply₂)
 step-told t₁ t₂ state₁ state₂ reply₁ reply₂ e =
-    let columns : t₁ ≡ t₂ = ap (λ (l : Left Machine Said). l .memory .table) e in
-    let state : state₁ ≡ state₂ = ap (λ (l : Left Machine Said). l .memory .state) e in
-    let reply : reply₁ ≡ reply₂ = replies-differ reply₁ reply₂ (ap (λ (l : Left Machine Said). l .answer) e) in
+    let columns : t₁ ≡ t₂ = ap (λ (l : Left Machine Word). l .memory .table) e in
+    let state : state₁ ≡ state₂ = ap (λ (l : Left Machine Word). l .memory .state) e in
+    let reply : reply₁ ≡ reply₂ = replies-differ reply₁ reply₂ (ap (λ (l : Left Machine Word). l .answer) e) in
     rw (columns, state, reply)
 
 listing-told : (places₁ places₂ : List ℕ) (listed₁ listed₂ : Listed) → left places₁ (listedIs listed₁) ≡ left places₂ (listedIs listed₂) →
@@ -75,13 +75,10 @@ step-fixed κs given answer₁ answer₂ exit₁ exit₂ p q = step-told _ _ (an
 pub listing-fixed : OneOutcome {Seen = List ℕ × Listed} listing.Post (λ κs answer exit. (exit .1 .1 .1 .1 .1 .0 .now, answer))
 listing-fixed κs given answer₁ answer₂ exit₁ exit₂ p q = listing-told _ _ answer₁ answer₂ (by-equation p q)
 
--- ---- the tests that a program on a grown list makes by itself, and the call of a code
+-- ---- the tests that a program on a grown list makes by itself
 
 pub call-asks-fixed : OneOutcome call-asks.Post (λ κs answer exit. answer)
 call-asks-fixed κs given answer₁ answer₂ exit₁ exit₂ p q = verdicts-differ answer₁ answer₂ (by-equation p q)
 
 pub move-asks-fixed : OneOutcome move-asks.Post (λ κs answer exit. answer)
 move-asks-fixed κs given answer₁ answer₂ exit₁ exit₂ p q = verdicts-differ answer₁ answer₂ (by-equation p q)
-
-pub call-named-fixed : OneOutcome call-named.Post (λ κs answer exit. answer)
-call-named-fixed κs given answer₁ answer₂ exit₁ exit₂ = by-equation

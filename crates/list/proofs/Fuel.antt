@@ -12,7 +12,7 @@ use borrow.Author.Tests.{ltb-true, lt-ltb}
 use Rattle.logic.proofs.Tests.{and-right}
 use Rattle.list_rows.specs.Table.{Table, keyAt, nextAt, isSplice}
 use Rattle.list_rows.specs.Order.{rankAt}
-use Rattle.list_unchecked.specs.Bare.{Machine}
+use Rattle.list_unchecked.specs.Unchecked.{Machine}
 use Rattle.list_form.proofs.Good.{Good, good}
 use Rattle.list_chain.specs.Chain.{behind, isLive, rises, withKey, liveFrom}
 use Rattle.list.specs.Claims.{FuelNeverDecides}

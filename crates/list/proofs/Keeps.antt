@@ -15,19 +15,19 @@ use borrow.Author.Tests.{ltb-true, leb-true, lt-ltb, le-ltb, not-true}
 use Rattle.columns.specs.Column.{at, put}
 use Rattle.logic.proofs.Tests.{and-left, and-right, and-both}
 use Rattle.list_rows.specs.declared.Write.{Write}
-use Rattle.list_rows.specs.declared.Write.the-variants.{Keep, Link, Splice, Item}
+use Rattle.list_rows.specs.declared.Write.the-variants.{Untouched, Link, Splice, Item}
 use Rattle.list_rows.specs.Table.{Table, nextAt, backAt, isSplice, link, withRow}
 use Rattle.list_rows.specs.Order.{belowKey, equalsKey}
 use Rattle.list_rows.specs.Writes.{written}
-use Rattle.list_party.specs.declared.Call.{Call}
-use Rattle.list_party.specs.declared.Call.the-variants.{Add, Remove, Contains}
+use Rattle.calls.specs.declared.Call.{Call}
+use Rattle.calls.specs.declared.Call.the-variants.{Add, Remove, Contains}
 use Rattle.list_party.specs.declared.Place.{Place}
 use Rattle.list_party.specs.declared.Place.the-variants.{Idle, Walk, Skip, AddSwap, Mark, Reread, Clean, Back, Look}
 use Rattle.list_party.specs.declared.Party.{Party}
 use Rattle.list_party.specs.Party.{blank}
 use Rattle.list_moves.specs.declared.Moved.{Moved}
-use Rattle.list_moves.specs.declared.Said.{Said}
-use Rattle.list_moves.specs.declared.Said.the-variants.{Yes, No}
+use Rattle.calls.specs.declared.Said.{Said}
+use Rattle.calls.specs.declared.Said.the-variants.{Yes, No}
 use Rattle.list_moves.specs.Moves.{
   answers,
   prepareOf,
@@ -45,21 +45,8 @@ use Rattle.list_moves.specs.Moves.{
   lookOf,
   placeOf,
 }
-use Rattle.list_form.specs.Form.{
-  kindFits,
-  keyFits,
-  linkFits,
-  keptAt,
-  isRemove,
-  isAdd,
-  isContains,
-  othersZero,
-  canReach,
-  noneOrSpare,
-  ownFits,
-  recordFits,
-  partyFits,
-}
+use Rattle.list_form.specs.Form.{kindFits, keyFits, linkFits, keptAt, othersZero, canReach, noneOrSpare, ownFits, recordFits, partyFits}
+use Rattle.calls.specs.Calls.{isRemove, isAdd, isContains}
 use Rattle.list_form.proofs.Good.{Each, Rows, Below, Fits, fits, record-fits}
 
 -- ---- writes
@@ -122,13 +109,13 @@ splice-fits T row from inside = rw (le-ltb row 4 from, lt-ltb row T inside)
 
 -- what may be written where T rows are taken and stay taken
 abbrev pub FitWrite : ℕ → Write → Type 0
-FitWrite T Keep = Unit {0}
+FitWrite T Untouched = Unit {0}
 FitWrite T (Link row to) = (row < T) × (to < T)
 FitWrite T (Splice row to from) = (4 ≤ row) × (row < T) × (to < T) × (from < T)
 FitWrite T (Item row key) = (4 ≤ row) × (row < T)
 
 pub write-keeps : (T : ℕ) (t : Table) (write : Write) → FitWrite T write → Rows T t → Rows T (written write t)
-write-keeps T t Keep w g = g
+write-keeps T t Untouched w g = g
 write-keeps T t (Link row to) w g = link-keeps T t row to g (w .0) (w .1)
 write-keeps T t (Splice row to from) w g =
     row-keeps T T t row 3 0 to from g (omega arith) (g .room) (λ other e. refl) (w .1) (splice-fits T row (w .0) (w .1)) (w .2) (w .3)

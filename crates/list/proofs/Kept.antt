@@ -16,25 +16,28 @@ use Rattle.refusal.proofs.Laws.{past-test, change-past}
 use Rattle.columns.specs.Column.{zeros}
 use Rattle.logic.proofs.Tests.{and-left, and-both}
 use Rattle.list_rows.specs.declared.Write.the-variants.{Item}
-use Rattle.list_rows.specs.Table.{Table}
+use Rattle.list_rows.specs.Table.{Table, headNxt}
 use Rattle.list_rows.specs.Writes.{written}
-use Rattle.list_party.specs.declared.Call.{Call}
-use Rattle.list_party.specs.declared.Call.the-variants.{Add, Remove, Contains}
+use Rattle.calls.specs.declared.Call.{Call}
+use Rattle.calls.specs.declared.Call.the-variants.{Add, Remove, Contains}
 use Rattle.list_party.specs.declared.Place.{Place}
 use Rattle.list_party.specs.declared.Place.the-variants.{Idle, Walk, Skip, AddSwap, Mark, Reread, Clean, Back, Look}
 use Rattle.list_party.specs.declared.Party.{Party}
 use Rattle.list_party.specs.declared.State.{State}
-use Rattle.list_party.specs.declared.Access.{Access}
-use Rattle.list_party.specs.declared.Access.the-variants.{None, Read, Won, Lost}
-use Rattle.list_party.specs.Party.{blank, partyAt, withParty, withTaken, starting, looking, oneMore, counted, tallied}
+use Rattle.calls.specs.declared.Access.{Access}
+use Rattle.calls.specs.declared.Access.the-variants.{None, Read, Won, Lost}
+use Rattle.list_party.specs.Party.{blank, goesTo, isIdle}
+use Rattle.calls.specs.Tallies.{oneMore, tallyPlus}
+use Rattle.list_party.specs.State.{partyAt, withParty, withTaken, withTallies, tallied, restingState}
 use Rattle.list_moves.specs.declared.Moved.{Moved}
 use Rattle.list_moves.specs.Moves.{placeOf}
-use Rattle.list_unchecked.specs.Bare.{Machine, machine, partyOf, startOf, begunOf, started, bareCallOf, bareMoveOf}
-use Rattle.list_form.specs.Form.{kindFits, keyFits, linkFits, isAdd, isRemove, isIdle, noneOrSpare, ownFits, recordFits, partyFits, rowsIn, goodForm}
-use Rattle.list_fresh.specs.Fresh.{freshTable, restingState}
-use Rattle.list.specs.Engine.{badParties, setUpTests, setUpOf, callNamed, noRow, callAsks, callTests, callOf, moveAsks, moveTests, accepting, moveOf}
+use Rattle.list_unchecked.specs.Unchecked.{Machine, machine, partyOf, starting, startOf, begunOf, started, uncheckedCall, uncheckedMove}
+use Rattle.list_form.specs.Form.{kindFits, keyFits, linkFits, noneOrSpare, ownFits, recordFits, partyFits, rowsIn, goodForm}
+use Rattle.calls.specs.Calls.{isAdd, isRemove, callNamed}
+use Rattle.list_fresh.specs.Fresh.{freshTable}
+use Rattle.list.specs.Engine.{badParties, setUpTests, setUpOf, noRow, callAsks, callTests, callOf, moveAsks, moveTests, accepting, moveOf}
 use Rattle.list.proofs.Laws.{repeat-at, neither, past-form, table-fits, past-set-up}
-use Rattle.list.specs.Claims.{SetUpIsGood, BlankIsBad, CallKeeps, MoveKeeps}
+use Rattle.list.specs.Claims.{SetUpIsGood, UnsetIsBad, CallKeeps, MoveKeeps}
 use Rattle.list_form.proofs.Good.{Each, Rows, Fits, fits, Good, good, good-form}
 use Rattle.list.proofs.Keeps.{row-keeps, item-fits, write-keeps, party-keeps, FitMove, move-fits}
 
@@ -95,15 +98,16 @@ fresh-good rows parties enough fair =
 
 pub set-up-is-good : SetUpIsGood
 unfolding setUpOf
-set-up-is-good t parties e =
-    kept-past (λ (m : Machine). goodForm m ≡ true) (setUpTests t parties) (machine t (restingState 0 0))
-    (left (machine (freshTable (rowsIn t)) (restingState parties 4)) passed) tt e
+set-up-is-good m parties e =
+    let t = m .table in
+    let set : Machine = machine (freshTable (rowsIn t)) (restingState parties 4) in
+    kept-past (λ (m : Machine). goodForm m ≡ true) (setUpTests t parties) m (left set passed) tt e
     (λ (passes : setUpTests t parties ≡ passed).
     let fair = past-set-up t parties passes in
-    good-form (machine (freshTable (rowsIn t)) (restingState parties 4)) (fresh-good (rowsIn t) parties (table-fits t (fair .0) .3) (fair .1)))
+    good-form set (fresh-good (rowsIn t) parties (table-fits t (fair .0) .3) (fair .1)))
 
-pub blank-is-bad : BlankIsBad
-blank-is-bad t h = let ends : 4 ≤ 0 = good (machine t (restingState 0 0)) h .rows .ends in omega arith
+pub unset-is-bad : UnsetIsBad
+unset-is-bad t h = let ends : 4 ≤ 0 = good (machine t (restingState 0 0)) h .rows .ends in omega arith
 
 -- ---- a party's new record, with its table
 
@@ -131,22 +135,27 @@ one-more true count = omega arith
 one-more false count = omega arith
 
 -- one more move, and at most one more swap
-counted-good : (t : Table) (st : State) (won lost : ℕ) → Good (machine t st) → st .moves < 16777216 → won + lost ≤ st .moves + 1 →
-    Good (machine t (counted (oneMore 4294967295 (st .moves)) won lost st))
+counted-good : (t : Table) (st : State) (won lost : ℕ) → Good (machine t st) → st .tallies .moves < 16777216 →
+    won + lost ≤ st .tallies .moves + 1 →
+    Good (machine t (withTallies st (record { moves = tallyPlus (st .tallies .moves); won = won; lost = lost })))
 counted-good t st won lost g left fair =
-    rw (lt-ltb (st .moves) 4294967295 (omega arith))
+    rw (lt-ltb (st .tallies .moves) 4294967295 (omega arith))
     (record { rows = g .rows; some = g .some; few = g .few; parties = g .parties; tallies = fair; spent = omega arith })
 
-tallied-good : (access : Access) (t : Table) (st : State) → Good (machine t st) → st .moves < 16777216 → Good (machine t (tallied access st))
-tallied-good None t st g left = g
-tallied-good Read t st g left = counted-good t st (st .won) (st .lost) g left (omega arith)
-tallied-good Won t st g left =
-    counted-good t st (oneMore 4294967295 (st .won)) (st .lost) g left (omega (arith, one-more (ltb (st .won) 4294967295) (st .won)))
-tallied-good Lost t st g left =
-    counted-good t st (st .won) (oneMore 4294967295 (st .lost)) g left (omega (arith, one-more (ltb (st .lost) 4294967295) (st .lost)))
+at-most-more : (count : ℕ) → tallyPlus count ≤ count + 1
+at-most-more count = one-more (ltb count 4294967295) count
 
-moved-good : (m : Machine) (i : ℕ) → Good m → i < m .state .count → m .state .moves < 16777216 → Good (bareMoveOf m i .after)
-unfolding bareMoveOf
+tallied-good : (access : Access) (t : Table) (st : State) → Good (machine t st) → st .tallies .moves < 16777216 →
+    Good (machine t (tallied access st))
+tallied-good None t st g left = g
+tallied-good Read t st g left = counted-good t st (st .tallies .won) (st .tallies .lost) g left (omega arith)
+tallied-good Won t st g left =
+    counted-good t st (tallyPlus (st .tallies .won)) (st .tallies .lost) g left (omega (arith, at-most-more (st .tallies .won)))
+tallied-good Lost t st g left =
+    counted-good t st (st .tallies .won) (tallyPlus (st .tallies .lost)) g left (omega (arith, at-most-more (st .tallies .lost)))
+
+moved-good : (m : Machine) (i : ℕ) → Good m → i < m .state .count → m .state .tallies .moves < 16777216 → Good (uncheckedMove m i .after)
+unfolding uncheckedMove
 moved-good m i g known left =
     let T : ℕ = m .state .taken in
     let q : Party = partyOf m i in
@@ -159,16 +168,16 @@ moved-good m i g known left =
 pub move-keeps : MoveKeeps
 unfolding moveOf
 move-keeps m party said e =
-    kept-past (λ (after : Machine). goodForm after ≡ true) (moveTests m party) m (accepting (bareMoveOf m party)) said e
+    kept-past (λ (after : Machine). goodForm after ≡ true) (moveTests m party) m (accepting (uncheckedMove m party)) said e
     (λ (passes : moveTests m party ≡ passed).
     let form = past-form m (moveAsks (m .state) party) passes in
     let g : Good m = good m (form .1) in
     let idle : Bool = isIdle (partyAt (m .state) party .place) in
-    let first = past-test (leb (m .state .count) party) 4 (refusing idle 8 (refusing (eqb (m .state .moves) 16777216) 9 passed)) (form .2) in
-    let second = past-test idle 8 (refusing (eqb (m .state .moves) 16777216) 9 passed) (first .1) in
-    let third = past-test (eqb (m .state .moves) 16777216) 9 passed (second .1) in
-    let left : m .state .moves ≢ 16777216 = eqb-false (m .state .moves) 16777216 (third .0) in
-    good-form (bareMoveOf m party .after) (moved-good m party g (leb-false (m .state .count) party (first .0)) (omega (arith, g .spent))))
+    let first = past-test (leb (m .state .count) party) 4 (refusing idle 8 (refusing (eqb (m .state .tallies .moves) 16777216) 9 passed)) (form .2) in
+    let second = past-test idle 8 (refusing (eqb (m .state .tallies .moves) 16777216) 9 passed) (first .1) in
+    let third = past-test (eqb (m .state .tallies .moves) 16777216) 9 passed (second .1) in
+    let left : m .state .tallies .moves ≢ 16777216 = eqb-false (m .state .tallies .moves) 16777216 (third .0) in
+    good-form (uncheckedMove m party .after) (moved-good m party g (leb-false (m .state .count) party (first .0)) (omega (arith, g .spent))))
 
 -- ---- a call
 
@@ -234,15 +243,15 @@ module _ (m : Machine) (i key : ℕ) (g : Good m) (known : i < m .state .count) 
       (row-there (q .unpublished) room)
 
   call-good : (call : Call) → length (m .table .kind) ≤ 4096 → isIdle (partyOf m i .place) ≡ true →
-      noRow (partyOf m i .unpublished) T (rowsIn (m .table)) call ≡ false → Good (bareCallOf m i call key)
-  unfolding bareCallOf begunOf
+      noRow (partyOf m i .unpublished) T (rowsIn (m .table)) call ≡ false → Good (uncheckedCall m i call key)
+  unfolding uncheckedCall begunOf
   call-good Add small idle room = begin-good Add refl small idle room
   call-good Remove small idle room = begin-good Remove refl small idle room
   call-good Contains small idle room =
       let q : Party = partyOf m i in
       let f : Fits T q = party-of m i g known in
       let from : 4 ≤ T = g .rows .ends in
-      with-party m i T (m .table) (looking q Contains key 1) g (omega arith) known (g .rows)
+      with-party m i T (m .table) (goesTo q (Look Contains key) (record { p = 0; n = 0; c = headNxt; s = 0; r = 0 })) g (omega arith) known (g .rows)
       (record {
         below = omega (arith, f .below .own);
         others = refl;
@@ -253,7 +262,7 @@ module _ (m : Machine) (i key : ℕ) (g : Good m) (known : i < m .state .count) 
 pub call-keeps : CallKeeps
 unfolding callOf
 call-keeps m party code key e =
-    kept-past (λ (after : Machine). goodForm after ≡ true) (callTests m party code) m (left (bareCallOf m party (callNamed code) key) passed) tt e
+    kept-past (λ (after : Machine). goodForm after ≡ true) (callTests m party code) m (left (uncheckedCall m party (callNamed code) key) passed) tt e
     (λ (passes : callTests m party code ≡ passed).
     let form = past-form m (callAsks (m .state) (rowsIn (m .table)) party code) passes in
     let g : Good m = good m (form .1) in
@@ -263,6 +272,6 @@ call-keeps m party code key e =
     let second = past-test (not idle) 5 (refusing (ltb 2 code) 6 (refusing full 7 passed)) (first .1) in
     let third = past-test (ltb 2 code) 6 (refusing full 7 passed) (second .1) in
     let fourth = past-test full 7 passed (third .1) in
-    good-form (bareCallOf m party (callNamed code) key)
+    good-form (uncheckedCall m party (callNamed code) key)
     (call-good m party key g (leb-false (m .state .count) party (first .0)) (callNamed code) (table-fits (m .table) (form .0) .4)
     (not-false idle (second .0)) (fourth .0)))

@@ -1,5 +1,6 @@
 -- The entry points case by case: what the tests found, and what is then answered and left.
 -- Assumes nothing.
+use Prim.{Unit}
 use mathlib.Core.Path.{_≡_, refl, ap, _∙_}
 use mathlib.Core.Bool.{Bool, true, false, not, true≢false, _||_, _&&_}
 use mathlib.Core.List.{List}
@@ -13,32 +14,28 @@ use Rattle.refusal.specs.declared.Refusal.{Refusal}
 use Rattle.refusal.specs.declared.Verdict.{Verdict}
 use Rattle.refusal.specs.declared.Verdict.the-variants.{Accepted, Refused}
 use Rattle.refusal.specs.Number.{numberOf}
-use Rattle.refusal.specs.Answer.{accepted, refused, left, Tests, passed, refusing, verdictIs}
+use Rattle.refusal.specs.Answer.{accepted, refused, Left, left, Tests, passed, refusing, verdictIs}
 use Rattle.refusal.proofs.Laws.{past-test, leaves-changed, leaves-found}
 use Rattle.refusal.proofs.Told.{tests-told}
-use Rattle.columns.specs.Column.{zeros}
-use Rattle.list_rows.specs.Table.{Table, tab}
-use Rattle.list_party.specs.declared.Call.{Call}
-use Rattle.list_party.specs.declared.Call.the-variants.{Contains}
+use Rattle.calls.specs.Words.{wordOf}
+use Rattle.list_rows.specs.Table.{Table}
+use Rattle.calls.specs.declared.Call.{Call}
+use Rattle.calls.specs.declared.Call.the-variants.{Contains}
 use Rattle.list_party.specs.declared.State.{State}
-use Rattle.list_moves.specs.declared.Said.{Said}
-use Rattle.list_unchecked.specs.Bare.{Machine, machine, bareDone, bareCallOf, bareMoveOf}
+use Rattle.calls.specs.declared.Said.{Said}
+use Rattle.list_unchecked.specs.Unchecked.{Machine, machine, made, uncheckedCall, uncheckedMove}
 use Rattle.list_form.proofs.Good.{two}
 use Rattle.list_form.specs.Form.{rowsIn, goodForm}
-use Rattle.list_fresh.specs.Fresh.{ends, freshTable, restingState}
-use Rattle.list.specs.Engine.{badTable, formTests, badParties, setUpTests, setUpOf, callNamed, callAsks, callTests, callOf, moveAsks, moveTests, accepting, moveOf, chainRises, liveKeys, listTests, placesWith, listOf}
+use Rattle.list_fresh.specs.Fresh.{freshTable, emptied}
+use Rattle.list_party.specs.State.{restingState}
+use Rattle.list.specs.Engine.{badTable, formTests, badParties, setUpTests, setUpOf, callAsks, callTests, callOf, moveAsks, moveTests, accepting, moveOf, chainRises, liveKeys, listTests, placesWith, listOf}
+use Rattle.calls.specs.Calls.{callNamed}
 
 -- what is repeated stands everywhere
 pub repeat-at : {A : Type 0} (a : A) (count j : ℕ) → getD (replicate count a) j a ≡ a
 repeat-at a zero j = refl
 repeat-at a (suc count) zero = refl
 repeat-at a (suc count) (suc j) = repeat-at a count j
-
--- every code past 1 names CONTAINS
-pub past-remove : (code : ℕ) → (code ≡ 0 → ⊥) → (code ≡ 1 → ⊥) → Contains ≡ callNamed code
-past-remove zero a b = absurd (a refl)
-past-remove (suc zero) a b = absurd (b refl)
-past-remove (suc (suc more)) a b = refl
 
 -- what the code's two verdicts tell of the tests
 form-told : (m : Machine) (asked : Verdict) {verdict found : Verdict} {asks : Tests} →
@@ -88,56 +85,56 @@ module _ (t : Table) (parties : ℕ) where
   pub few-parties : setUpTests t parties ≡ passed → parties ≤ 16
   few-parties passes = ltb-false 16 parties (neither (eqb parties 0) (ltb 16 parties) (past-set-up passes .1) .1)
 
-  -- four columns, each fresh by its own length, are the fresh table of so many rows
-  fresh-so : {t′ : Table} → badTable t ≡ false →
-      t′ ≡ tab (ends (zeros (length (t .kind))) 1 1 1 1) (zeros (length (t .key))) (ends (zeros (length (t .next))) 1 2 3 3) (zeros (length (t .back))) →
-      t′ ≡ freshTable (rowsIn t)
-  fresh-so good is = let same = table-fits t good in is ∙ rw (same .0, same .1, same .2)
+-- four columns, each fresh by its own length, are the fresh table of so many rows
+emptied-fresh : (t : Table) → badTable t ≡ false → emptied t ≡ freshTable (rowsIn t)
+emptied-fresh t good = let same = table-fits t good in rw (same .0, same .1, same .2)
 
-  pub set-up-accepts : {verdict : Verdict} {t′ : Table} {st : State} → verdictIs verdict ≡ setUpTests t parties → verdict ≡ Accepted →
-      t′ ≡ tab (ends (zeros (length (t .kind))) 1 1 1 1) (zeros (length (t .key))) (ends (zeros (length (t .next))) 1 2 3 3) (zeros (length (t .back))) →
-      st ≡ restingState parties 4 → left (machine t′ st) (verdictIs verdict) ≡ setUpOf t parties
+module _ (t : Table) (st : State) (parties : ℕ) where
+  abbrev set : Left Machine (Unit {0})
+  set = left (machine (freshTable (rowsIn t)) (restingState parties 4)) passed
+
+  pub set-up-accepts : {verdict : Verdict} {t′ : Table} {st′ : State} → verdictIs verdict ≡ setUpTests t parties → verdict ≡ Accepted →
+      t′ ≡ emptied t → st′ ≡ restingState parties 4 → left (machine t′ st′) (verdictIs verdict) ≡ setUpOf (machine t st) parties
   unfolding setUpOf
   set-up-accepts tests is lays rests =
       let passes : setUpTests t parties ≡ passed = tests-told tests is in
-      rw (is, fresh-so (past-set-up passes .0) lays, rests) (leaves-changed (setUpTests t parties) (machine t (restingState 0 0)) (left (machine (freshTable (rowsIn t)) (restingState parties 4)) passed) passes)
+      rw (is, lays, emptied-fresh t (past-set-up t parties passes .0), rests) (leaves-changed (setUpTests t parties) (machine t st) set passes)
 
-  pub set-up-refuses : {verdict : Verdict} {why : Refusal} {st : State} → verdictIs verdict ≡ setUpTests t parties → verdict ≡ Refused why →
-      st ≡ restingState 0 0 → left (machine t st) (verdictIs verdict) ≡ setUpOf t parties
+  pub set-up-refuses : {verdict : Verdict} {why : Refusal} → verdictIs verdict ≡ setUpTests t parties → verdict ≡ Refused why →
+      left (machine t st) (verdictIs verdict) ≡ setUpOf (machine t st) parties
   unfolding setUpOf
-  set-up-refuses tests is rests = rw (is, rests)
-      (leaves-found (setUpTests t parties) (machine t (restingState 0 0)) (left (machine (freshTable (rowsIn t)) (restingState parties 4)) passed) (tests-told tests is))
+  set-up-refuses tests is = rw is (leaves-found (setUpTests t parties) (machine t st) set (tests-told tests is))
 
 -- ---- call and move
 
 module _ (m : Machine) (party : ℕ) where
   pub call-accepts : (code key : ℕ) (asked : Verdict) {verdict : Verdict} {call : Call} {after : Machine} →
       verdictIs asked ≡ callAsks (m .state) (rowsIn (m .table)) party code → verdictIs verdict ≡ formTests m (verdictIs asked) → verdict ≡ Accepted →
-      call ≡ callNamed code → after ≡ bareCallOf m party call key → left after (verdictIs verdict) ≡ callOf m party code key
+      call ≡ callNamed code → after ≡ uncheckedCall m party call key → left after (verdictIs verdict) ≡ callOf m party code key
   unfolding callOf
   call-accepts code key asked asks forms is named calls =
       rw (is, calls, named)
-      (leaves-changed (callTests m party code) m (left (bareCallOf m party (callNamed code) key) passed) (form-told m asked asks forms is))
+      (leaves-changed (callTests m party code) m (left (uncheckedCall m party (callNamed code) key) passed) (form-told m asked asks forms is))
 
   pub call-refuses : (code key : ℕ) (asked : Verdict) {verdict : Verdict} {why : Refusal} →
       verdictIs asked ≡ callAsks (m .state) (rowsIn (m .table)) party code → verdictIs verdict ≡ formTests m (verdictIs asked) → verdict ≡ Refused why →
       left m (verdictIs verdict) ≡ callOf m party code key
   unfolding callOf
   call-refuses code key asked asks forms is =
-      rw is (leaves-found (callTests m party code) m (left (bareCallOf m party (callNamed code) key) passed) (form-told m asked asks forms is))
+      rw is (leaves-found (callTests m party code) m (left (uncheckedCall m party (callNamed code) key) passed) (form-told m asked asks forms is))
 
   pub move-accepts : (asked : Verdict) {verdict : Verdict} {after : Machine} {said : Said} →
       verdictIs asked ≡ moveAsks (m .state) party → verdictIs verdict ≡ formTests m (verdictIs asked) → verdict ≡ Accepted →
-      bareDone after said ≡ bareMoveOf m party → left after (accepted said) ≡ moveOf m party
+      made after said ≡ uncheckedMove m party → left after (accepted (wordOf said)) ≡ moveOf m party
   unfolding moveOf
   move-accepts asked asks forms is moves =
-      ap accepting moves ∙ leaves-changed (moveTests m party) m (accepting (bareMoveOf m party)) (form-told m asked asks forms is)
+      ap accepting moves ∙ leaves-changed (moveTests m party) m (accepting (uncheckedMove m party)) (form-told m asked asks forms is)
 
   pub move-refuses : (asked : Verdict) {verdict : Verdict} {why : Refusal} →
       verdictIs asked ≡ moveAsks (m .state) party → verdictIs verdict ≡ formTests m (verdictIs asked) → verdict ≡ Refused why →
       left m (refused (numberOf why)) ≡ moveOf m party
   unfolding moveOf
-  move-refuses asked asks forms is = leaves-found (moveTests m party) m (accepting (bareMoveOf m party)) (form-told m asked asks forms is)
+  move-refuses asked asks forms is = leaves-found (moveTests m party) m (accepting (uncheckedMove m party)) (form-told m asked asks forms is)
 
 -- ---- listing
 

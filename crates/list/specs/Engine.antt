@@ -2,19 +2,20 @@
 use Prim.{Unit}
 use mathlib.Core.List.{List, _++_}
 use mathlib.Core.Bool.{Bool, not, _&&_, _||_}
-use Prim.Native.Nat.{ℕ, zero, suc}
+use Prim.Native.Nat.{ℕ}
 use lib.ListN.{length, drop}
 use lib.Dec.{eqb, ltb, leb}
 use Rattle.refusal.specs.Answer.{accepted, Left, left, Tests, passed, refusing, leaving}
-use Rattle.list_rows.specs.Table.{Table}
-use Rattle.list_party.specs.declared.Call.{Call}
-use Rattle.list_party.specs.declared.Call.the-variants.{Add, Remove, Contains}
+use Rattle.calls.specs.declared.Call.{Call}
+use Rattle.calls.specs.Calls.{callNamed, isContains}
+use Rattle.calls.specs.Words.{Word, wordOf}
+use Rattle.list_rows.specs.Table.{Table, headNxt}
 use Rattle.list_party.specs.declared.State.{State}
-use Rattle.list_party.specs.Party.{partyAt}
-use Rattle.list_moves.specs.declared.Said.{Said}
-use Rattle.list_unchecked.specs.Bare.{Machine, machine, BareDone, bareCallOf, bareMoveOf}
-use Rattle.list_fresh.specs.Fresh.{freshTable, restingState}
-use Rattle.list_form.specs.Form.{rowsIn, columnsAgree, isIdle, isContains, goodForm}
+use Rattle.list_party.specs.Party.{isIdle}
+use Rattle.list_party.specs.State.{partyAt, restingState}
+use Rattle.list_unchecked.specs.Unchecked.{Machine, machine, Made, uncheckedCall, uncheckedMove}
+use Rattle.list_fresh.specs.Fresh.{freshTable}
+use Rattle.list_form.specs.Form.{rowsIn, columnsAgree, goodForm}
 use Rattle.list_chain.specs.Chain.{rises, liveFrom}
 
 -- ---- tests that several entry points share
@@ -39,18 +40,13 @@ badParties parties = eqb parties 0 || ltb 16 parties
 abbrev pub setUpTests : Table → ℕ → Tests
 setUpTests t parties = refusing (badTable t) 1 (refusing (badParties parties) 2 passed)
 
--- a refused set-up hands back a state without parties and rows, which every other entry point refuses (`BlankIsBad` in Claims)
-unfoldable pub setUpOf : Table → ℕ → Left Machine (Unit {0})
-setUpOf t parties =
-    leaving (setUpTests t parties) (machine t (restingState 0 0)) (left (machine (freshTable (rowsIn t)) (restingState parties 4)) passed)
+-- an empty list in the columns, all parties idle without a spare, T at 4 and all tallies at 0, whatever stood there before
+unfoldable pub setUpOf : Machine → (parties : ℕ) → Left Machine (Unit {0})
+setUpOf m parties =
+    leaving (setUpTests (m .table) parties) m
+    (left (machine (freshTable (rowsIn (m .table))) (restingState parties 4)) passed)
 
 -- ---- call: 1, 3, 4, 5, 6, 7
-
--- the call that a code stands for; a larger code is refused before it is named
-abbrev pub callNamed : ℕ → Call
-callNamed zero = Add
-callNamed (suc zero) = Remove
-callNamed (suc (suc more)) = Contains
 
 -- the test for 7: a row is needed, and there is neither a spare nor one to take
 abbrev pub noRow : (unpublished : Bool) (taken rows : ℕ) → Call → Bool
@@ -68,7 +64,7 @@ abbrev pub callTests : Machine → (party code : ℕ) → Tests
 callTests m party code = formTests m (callAsks (m .state) (rowsIn (m .table)) party code)
 
 unfoldable pub callOf : Machine → (party code key : ℕ) → Left Machine (Unit {0})
-callOf m party code key = leaving (callTests m party code) m (left (bareCallOf m party (callNamed code) key) passed)
+callOf m party code key = leaving (callTests m party code) m (left (uncheckedCall m party (callNamed code) key) passed)
 
 -- ---- move: 1, 3, 4, 8, 9
 
@@ -77,29 +73,32 @@ abbrev pub moveAsks : State → (party : ℕ) → Tests
 moveAsks st party =
     refusing (leb (st .count) party) 4
     (refusing (isIdle (partyAt st party .place)) 8
-    (refusing (eqb (st .moves) 16777216) 9 passed))
+    (refusing (eqb (st .tallies .moves) 16777216) 9 passed))
 
 abbrev pub moveTests : Machine → (party : ℕ) → Tests
 moveTests m party = formTests m (moveAsks (m .state) party)
 
 -- a move is answered by what it says
-abbrev pub accepting : BareDone → Left Machine Said
-accepting made = left (made .after) (accepted (made .said))
+abbrev pub accepting : Made → Left Machine Word
+accepting made = left (made .after) (accepted (wordOf (made .said)))
 
-unfoldable pub moveOf : Machine → (party : ℕ) → Left Machine Said
-moveOf m party = leaving (moveTests m party) m (accepting (bareMoveOf m party))
+unfoldable pub moveOf : Machine → (party : ℕ) → Left Machine Word
+moveOf m party = leaving (moveTests m party) m (accepting (uncheckedMove m party))
 
 -- ---- listing: 1, 3, 10
 
 -- the chain starts at row 1, and no more than T rows are on it
 abbrev pub chainRises : Machine → Bool
-chainRises m = rises (m .table) (m .state .taken) 1
+chainRises m = rises (m .table) (m .state .taken) headNxt
 
 abbrev pub liveKeys : Machine → List ℕ
-liveKeys m = liveFrom (m .table) (m .state .taken) 1
+liveKeys m = liveFrom (m .table) (m .state .taken) headNxt
 
 abbrev pub listTests : Machine → (places : ℕ) → Tests
-listTests m places = formTests m (refusing (not (chainRises m)) 3 (refusing (ltb places (length (liveKeys m))) 10 passed))
+listTests m places =
+    formTests m
+    (refusing (not (chainRises m)) 3
+    (refusing (ltb places (length (liveKeys m))) 10 passed))
 
 -- the first places hold the keys, and no other place is written
 abbrev pub placesWith : List ℕ → List ℕ → List ℕ
@@ -107,4 +106,6 @@ placesWith keys places = keys ++ drop (length keys) places
 
 -- what a listing leaves in its places, and how many keys it has listed; the table and the state are only read
 unfoldable pub listOf : Machine → List ℕ → Left (List ℕ) ℕ
-listOf m places = leaving (listTests m (length places)) places (left (placesWith (liveKeys m) places) (accepted (length (liveKeys m))))
+listOf m places =
+    leaving (listTests m (length places)) places
+    (left (placesWith (liveKeys m) places) (accepted (length (liveKeys m))))

@@ -1,14 +1,12 @@
 // The entry points of the list: set-up, call, move and listing, each with its refusals in their order.
+use calls::Call;
+use calls::Reply;
 use list_chain::chain_rises;
 use list_chain::live_count;
 use list_chain::write_live;
+use list_form::columns_agree;
 use list_form::good_form;
-use list_form::is_contains;
-use list_form::is_idle;
 use list_fresh::fresh_table;
-use list_fresh::resting_state;
-use list_moves::Said;
-use list_party::Call;
 use list_party::State;
 use refusal::Refusal;
 use refusal::Verdict;
@@ -16,21 +14,26 @@ ghost use mathlib.Core.Path.{_≡_};
 ghost use mathlib.Core.Bool.{not};
 ghost use lib.Dec.{ltb};
 ghost use Rattle.refusal.specs.Answer.{left, verdictIs, refusing, passed};
-ghost use Rattle.list_rows.specs.Table.{tab};
-ghost use Rattle.list_unchecked.specs.Bare.{machine};
-ghost use Rattle.list.specs.Engine.{badColumns, formTests, badParties, setUpOf, callNamed, noRow, callAsks, callOf, moveAsks, moveOf, listOf};
+ghost use Rattle.list_rows.specs.Table.{before, after};
+ghost use Rattle.list_unchecked.specs.Unchecked.{machine};
+ghost use Rattle.list.specs.Engine.{
+  badColumns,
+  formTests,
+  badParties,
+  setUpOf,
+  noRow,
+  callAsks,
+  callOf,
+  moveAsks,
+  moveOf,
+  listOf,
+};
 ghost use Rattle.list.specs.Answers.{afterIs, stepIs, listedIs};
 
 // What a set-up or a call hands back: the state, and whether it was accepted.
 pub struct After {
     pub state: State,
     pub verdict: Verdict,
-}
-
-// What a move is answered.
-pub enum Reply {
-    Heard(Said),
-    Refused(Refusal),
 }
 
 // What a move hands back: the state and the answer.
@@ -49,12 +52,13 @@ pub enum Listed {
 fn bad_columns(kind: usize, key: usize, next: usize, back: usize) -> bool
     ensures { λ r. ⌜ r ≡ badColumns kind key next back ⌝ }
 {
-    !(list_form::columns_agree(kind, key, next, back) & ((4 <= kind) & (kind <= 4096)))
+    !(columns_agree(kind, key, next, back) & ((4 <= kind) & (kind <= 4096)))
 }
 
 // 1, 2.
 fn set_up_verdict(kind: usize, key: usize, next: usize, back: usize, parties: u32) -> Verdict
-    ensures { λ r. ⌜ verdictIs r ≡ refusing (badColumns kind key next back) 1 (refusing (badParties parties) 2 passed) ⌝ }
+    ensures { λ r. ⌜ verdictIs r
+        ≡ refusing (badColumns kind key next back) 1 (refusing (badParties parties) 2 passed) ⌝ }
 {
     if bad_columns(kind, key, next, back) {
         return Verdict::Refused(Refusal::BadColumns);
@@ -65,40 +69,27 @@ fn set_up_verdict(kind: usize, key: usize, next: usize, back: usize, parties: u3
     Verdict::Accepted
 }
 
-// Lays an empty list for so many parties into the columns.
+// Lays an empty list for so many parties into the columns, whatever stood there; refused, it hands the state back that came.
 pub fn set_up(
     kind: &mut [u8],
     key: &mut [u32],
     next: &mut [u16],
     back: &mut [u16],
+    state: State,
     parties: u32,
 ) -> After
-    ensures { λ r. ⌜ afterIs (tab (now (kind .exit)) (now (key .exit)) (now (next .exit)) (now (back .exit))) r ≡ setUpOf (tab (now (kind .entry)) (now (key .entry)) (now (next .entry)) (now (back .entry))) parties ⌝ }
+    ensures { λ r. ⌜ afterIs (after kind key next back) r ≡ setUpOf (machine (before kind key next back) state) parties ⌝ }
 {
     let verdict = set_up_verdict(kind.len(), key.len(), next.len(), back.len(), parties);
     match verdict {
         Verdict::Accepted => {
             fresh_table(kind, key, next, back);
             After {
-                state: resting_state(parties as u8, 4),
+                state: State::resting(parties as u8, 4),
                 verdict,
             }
         }
-        Verdict::Refused(_) => After {
-            state: resting_state(0, 0),
-            verdict,
-        },
-    }
-}
-
-// The call that a code names.
-pub fn call_named(code: u32) -> Call
-    ensures { λ r. ⌜ r ≡ callNamed code ⌝ }
-{
-    match code {
-        0 => Call::Add,
-        1 => Call::Remove,
-        _ => Call::Contains,
+        Verdict::Refused(_) => After { state, verdict },
     }
 }
 
@@ -106,10 +97,10 @@ pub fn call_named(code: u32) -> Call
 fn no_row(unpublished: bool, taken: u16, rows: usize, call: Call) -> bool
     ensures { λ r. ⌜ r ≡ noRow unpublished taken rows call ⌝ }
 {
-    !is_contains(call) & (!unpublished & ((taken as usize) == rows))
+    !call.is_contains() & (!unpublished & ((taken as usize) == rows))
 }
 
-// 4, 5, 6, 7: what a call asks of a state of good form, with columns of so many rows.
+// 4, 5, 6, 7: what a call asks of a state of good form, with columns of so many rows. Does not test for 1 and 3.
 pub fn call_asks(state: State, rows: usize, number: u32, code: u32) -> Verdict
     ensures { λ r. ⌜ verdictIs r ≡ callAsks state rows number code ⌝ }
 {
@@ -118,19 +109,19 @@ pub fn call_asks(state: State, rows: usize, number: u32, code: u32) -> Verdict
     }
     let party = state.party_at(number);
     let place = party.place;
-    if !is_idle(place) {
+    if !place.is_idle() {
         return Verdict::Refused(Refusal::PartyBusy);
     }
     if 2 < code {
         return Verdict::Refused(Refusal::NoSuchCall);
     }
-    if no_row(party.unpublished, state.taken, rows, call_named(code)) {
+    if no_row(party.unpublished, state.taken, rows, Call::named(code)) {
         return Verdict::Refused(Refusal::TableFull);
     }
     Verdict::Accepted
 }
 
-// 4, 8, 9: what a move asks of a state of good form.
+// 4, 8, 9: what a move asks of a state of good form. Does not test for 1 and 3.
 pub fn move_asks(state: State, number: u32) -> Verdict
     ensures { λ r. ⌜ verdictIs r ≡ moveAsks state number ⌝ }
 {
@@ -139,10 +130,10 @@ pub fn move_asks(state: State, number: u32) -> Verdict
     }
     let party = state.party_at(number);
     let place = party.place;
-    if is_idle(place) {
+    if place.is_idle() {
         return Verdict::Refused(Refusal::PartyIdle);
     }
-    if state.moves == 16777216 {
+    if state.tallies.moves == 16777216 {
         return Verdict::Refused(Refusal::MovesSpent);
     }
     Verdict::Accepted
@@ -157,7 +148,7 @@ fn form_verdict(
     state: State,
     asked: Verdict,
 ) -> Verdict
-    ensures { λ r. ⌜ verdictIs r ≡ formTests (machine (tab (now (kind .entry)) (now (key .entry)) (now (next .entry)) (now (back .entry))) state) (verdictIs asked) ⌝ }
+    ensures { λ r. ⌜ verdictIs r ≡ formTests (machine (before kind key next back) state) (verdictIs asked) ⌝ }
 {
     if bad_columns(kind.len(), key.len(), next.len(), back.len()) {
         return Verdict::Refused(Refusal::BadColumns);
@@ -179,7 +170,8 @@ pub fn call(
     code: u32,
     wanted: u32,
 ) -> After
-    ensures { λ r. ⌜ afterIs (tab (now (kind .exit)) (now (key .exit)) (now (next .exit)) (now (back .exit))) r ≡ callOf (machine (tab (now (kind .entry)) (now (key .entry)) (now (next .entry)) (now (back .entry))) state) number code wanted ⌝ }
+    ensures { λ r. ⌜ afterIs (after kind key next back) r
+        ≡ callOf (machine (before kind key next back) state) number code wanted ⌝ }
 {
     let asked = call_asks(state, kind.len(), number, code);
     let verdict = form_verdict(kind, key, next, back, state, asked);
@@ -192,7 +184,7 @@ pub fn call(
                 back,
                 state,
                 number,
-                call_named(code),
+                Call::named(code),
                 wanted,
             ),
             verdict,
@@ -210,7 +202,7 @@ pub fn step(
     state: State,
     number: u32,
 ) -> Stepped
-    ensures { λ r. ⌜ stepIs (tab (now (kind .exit)) (now (key .exit)) (now (next .exit)) (now (back .exit))) r ≡ moveOf (machine (tab (now (kind .entry)) (now (key .entry)) (now (next .entry)) (now (back .entry))) state) number ⌝ }
+    ensures { λ r. ⌜ stepIs (after kind key next back) r ≡ moveOf (machine (before kind key next back) state) number ⌝ }
 {
     let verdict = form_verdict(kind, key, next, back, state, move_asks(state, number));
     match verdict {
@@ -252,7 +244,8 @@ pub fn listing(
     state: State,
     places: &mut [u32],
 ) -> Listed
-    ensures { λ r. ⌜ left (now (places .exit)) (listedIs r) ≡ listOf (machine (tab (now (kind .entry)) (now (key .entry)) (now (next .entry)) (now (back .entry))) state) (now (places .entry)) ⌝ }
+    ensures { λ r. ⌜ left (now (places .exit)) (listedIs r)
+        ≡ listOf (machine (before kind key next back) state) (now (places .entry)) ⌝ }
 {
     let rises = chain_rises(kind, key, next, back, state.taken);
     let count = live_count(kind, key, next, back, state.taken);

@@ -11,9 +11,9 @@ use native.Mathlib.Omega.{arith}
 use lib.Dec.{eqb}
 use lib.ListN.{length, set}
 use lib.Seq.{sets}
-use borrow.Author.Tests.{eq-eqb, ne-eqb, lt-ltb, le-ltb}
+use borrow.Author.Tests.{eq-eqb, ne-eqb}
 use Rattle.list_rows.specs.Table.{Table, keyAt}
-use Rattle.list_rows.specs.Order.{rankAt}
+use Rattle.list_rows.specs.Order.{below}
 use Rattle.list_chain.specs.Chain.{behind, isLive, rises, withKey, liveFrom}
 use Rattle.logic.specs.Sum.{oneIf}
 
@@ -29,15 +29,16 @@ module _ (t : Table) (row : ℕ) where
   rises-end zero ends = eq-eqb row 2 ends
   rises-end (suc left) ends = rw (eq-eqb row 2 ends)
 
-  pub rises-stop : (left : ℕ) {later : ℕ} → 0 < left → row ≢ 2 → later ≡ behind t row → rankAt t later ≤ rankAt t row → rises t left row ≡ false
+  pub rises-stop : (left : ℕ) {later : ℕ} → 0 < left → row ≢ 2 → later ≡ behind t row → below t row later ≡ false → rises t left row ≡ false
   unfolding rises
   rises-stop zero some goes is falls = absurd (not-suc-le-zero some)
-  rises-stop (suc left) {later} some goes is falls = rw (ne-eqb row 2 goes, ← is, le-ltb (rankAt t row) (rankAt t later) falls)
+  rises-stop (suc left) {later} some goes is falls = rw (ne-eqb row 2 goes, ← is, falls)
 
-  pub rises-on : (left : ℕ) {later : ℕ} → 0 < left → row ≢ 2 → later ≡ behind t row → rankAt t row < rankAt t later → rises t left row ≡ rises t (left - 1) later
+  pub rises-on : (left : ℕ) {later : ℕ} → 0 < left → row ≢ 2 → later ≡ behind t row → below t row later ≡ true →
+      rises t left row ≡ rises t (left - 1) later
   unfolding rises
   rises-on zero some goes is up = absurd (not-suc-le-zero some)
-  rises-on (suc left) {later} some goes is up = rw (ne-eqb row 2 goes, ← is, lt-ltb (rankAt t row) (rankAt t later) up, sub-one)
+  rises-on (suc left) {later} some goes is up = rw (ne-eqb row 2 goes, ← is, up, sub-one)
 
   -- ---- its keys
 
@@ -76,13 +77,17 @@ puts-key : (counts : Bool) (key : ℕ) (later places : List ℕ) (place : ℕ) �
 puts-key true key later places place = rw add-one
 puts-key false key later places place = rw add-zero
 
-module _ (t : Table) (row left : ℕ) (some : 0 < left) (goes : row ≢ 2) {live : Bool} {one later : ℕ} (lives : live ≡ isLive t row) (counts : one ≡ oneIf live) (is-behind : later ≡ behind t row) where
+module _ (t : Table) (row left : ℕ) (some : 0 < left) (goes : row ≢ 2) {live : Bool} {one later : ℕ}
+    (lives : live ≡ isLive t row) (counts : one ≡ oneIf live) (is-behind : later ≡ behind t row) where
   pub count-on : (count : ℕ) → count + length (liveFrom t left row) ≡ count + one + length (liveFrom t (left - 1) later)
   count-on count =
-      rw (counts, lives, is-behind) (ap (λ (keys : List ℕ). count + length keys) (live-on t row left some goes) ∙ counts-key (isLive t row) (keyAt t row) (liveFrom t (left - 1) (behind t row)) count)
+      rw (counts, lives, is-behind)
+      (ap (λ (keys : List ℕ). count + length keys) (live-on t row left some goes)
+      ∙ counts-key (isLive t row) (keyAt t row) (liveFrom t (left - 1) (behind t row)) count)
 
   pub put-on : (places : List ℕ) (place : ℕ) {key : ℕ} {after : List ℕ} → key ≡ keyAt t row → after ≡ cond live (set places place key) places →
       sets places place (liveFrom t left row) ≡ sets after (place + one) (liveFrom t (left - 1) later)
   put-on places place is-key puts =
       rw (puts, counts, lives, is-key, is-behind)
-      (ap (λ (keys : List ℕ). sets places place keys) (live-on t row left some goes) ∙ puts-key (isLive t row) (keyAt t row) (liveFrom t (left - 1) (behind t row)) places place)
+      (ap (λ (keys : List ℕ). sets places place keys) (live-on t row left some goes)
+      ∙ puts-key (isLive t row) (keyAt t row) (liveFrom t (left - 1) (behind t row)) places place)

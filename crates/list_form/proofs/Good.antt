@@ -12,8 +12,8 @@ use Rattle.logic.proofs.Every.{every-at, every-of}
 use Rattle.logic.proofs.Tests.{and-left, and-right, and-both}
 use Rattle.list_rows.specs.Table.{Table}
 use Rattle.list_party.specs.declared.Party.{Party}
-use Rattle.list_party.specs.Party.{partyAt}
-use Rattle.list_unchecked.specs.Bare.{Machine}
+use Rattle.list_party.specs.State.{partyAt}
+use Rattle.list_unchecked.specs.Unchecked.{Machine}
 use Rattle.list_form.specs.Form.{
   columnsAgree,
   takenFits,
@@ -23,6 +23,7 @@ use Rattle.list_form.specs.Form.{
   kindsFit,
   keysFit,
   linksFit,
+  goodRows,
   rowsBelow,
   keptAt,
   othersZero,
@@ -33,6 +34,7 @@ use Rattle.list_form.specs.Form.{
   partiesFit,
   countFits,
   talliesFit,
+  goodParties,
   goodForm,
 }
 
@@ -127,8 +129,8 @@ pub record Good (m : Machine) : Type 0 where
   pub some : 1 ≤ m .state .count
   pub few : m .state .count ≤ 16
   pub parties : (i : ℕ) → i < 16 → partyFits (m .state .taken) (m .state .count) i (partyAt (m .state) i) ≡ true
-  pub tallies : m .state .won + m .state .lost ≤ m .state .moves
-  pub spent : m .state .moves ≤ 16777216
+  pub tallies : m .state .tallies .won + m .state .tallies .lost ≤ m .state .tallies .moves
+  pub spent : m .state .tallies .moves ≤ 16777216
 
 module _ (m : Machine) where
   abbrev T : ℕ
@@ -141,8 +143,8 @@ module _ (m : Machine) where
   sentences : goodForm m ≡ true →
       (agree ≡ true) × (takenFits T (length (m .table .kind)) ≡ true) × (kindsFit (m .table .kind) T ≡ true) × (keysFit (m .table .key) T ≡ true)
       × (linksFit (m .table .next) T ≡ true) × (linksFit (m .table .back) T ≡ true) × (countFits (m .state .count) ≡ true)
-      × (partiesFit (m .state) ≡ true) × (talliesFit (m .state .moves) (m .state .won) (m .state .lost) ≡ true)
-  unfolding goodForm
+      × (partiesFit (m .state) ≡ true) × (talliesFit (m .state .tallies) ≡ true)
+  unfolding goodForm goodRows goodParties
   sentences h =
       let fit : Bool = takenFits T (length (m .table .kind)) in
       let kinds : Bool = kindsFit (m .table .kind) T in
@@ -151,10 +153,11 @@ module _ (m : Machine) where
       let backs : Bool = linksFit (m .table .back) T in
       let count : Bool = countFits (m .state .count) in
       let parties : Bool = partiesFit (m .state) in
-      let tallies : Bool = talliesFit (m .state .moves) (m .state .won) (m .state .lost) in
-      let last = four (agree && fit && kinds && keys && nexts && backs) count parties tallies h in
-      let first = six agree fit kinds keys nexts backs (last .0) in
-      (first .0, first .1, first .2, first .3, first .4, first .5, last .1, last .2, last .3)
+      let tallies : Bool = talliesFit (m .state .tallies) in
+      let whole = two (agree && fit && kinds && keys && nexts && backs) (count && parties && tallies) h in
+      let first = six agree fit kinds keys nexts backs (whole .0) in
+      let last = three count parties tallies (whole .1) in
+      (first .0, first .1, first .2, first .3, first .4, first .5, last .0, last .1, last .2)
 
   rows-of : goodForm m ≡ true → Rows T (m .table)
   unfolding kindsFit keysFit linksFit
@@ -180,14 +183,14 @@ module _ (m : Machine) where
   good h =
       let all = sentences h in
       let count = two (leb 1 (m .state .count)) (leb (m .state .count) 16) (all .6) in
-      let tally = two (leb (m .state .won + m .state .lost) (m .state .moves)) (leb (m .state .moves) 16777216) (all .8) in
+      let tally = two (leb (m .state .tallies .won + m .state .tallies .lost) (m .state .tallies .moves)) (leb (m .state .tallies .moves) 16777216) (all .8) in
       record {
         rows = rows-of h;
         some = leb-true 1 (m .state .count) (count .0);
         few = leb-true (m .state .count) 16 (count .1);
         parties = every-at (λ i. partyFits T (m .state .count) i (partyAt (m .state) i)) 16 (all .7);
-        tallies = leb-true (m .state .won + m .state .lost) (m .state .moves) (tally .0);
-        spent = leb-true (m .state .moves) 16777216 (tally .1);
+        tallies = leb-true (m .state .tallies .won + m .state .tallies .lost) (m .state .tallies .moves) (tally .0);
+        spent = leb-true (m .state .tallies .moves) 16777216 (tally .1);
       }
 
   -- the sentences that the rows give
@@ -212,10 +215,10 @@ module _ (m : Machine) where
       and-both (and-both (and-both (and-both (agree-of g) kinds) keys) nexts) backs
 
   pub good-form : Good m → goodForm m ≡ true
-  unfolding goodForm partiesFit
+  unfolding goodForm goodRows goodParties partiesFit
   good-form g =
       let count = and-both (le-leb 1 (m .state .count) (g .some)) (le-leb (m .state .count) 16 (g .few)) in
       let parties = every-of (λ i. partyFits T (m .state .count) i (partyAt (m .state) i)) 16 (g .parties) in
-      let tally = le-leb (m .state .won + m .state .lost) (m .state .moves) (g .tallies) in
-      let spent = le-leb (m .state .moves) 16777216 (g .spent) in
-      and-both (and-both (and-both (columns-of (g .rows)) count) parties) (and-both tally spent)
+      let tally = le-leb (m .state .tallies .won + m .state .tallies .lost) (m .state .tallies .moves) (g .tallies) in
+      let spent = le-leb (m .state .tallies .moves) 16777216 (g .spent) in
+      and-both (columns-of (g .rows)) (and-both (and-both count parties) (and-both tally spent))

@@ -1,14 +1,17 @@
 // Good form: whether the four columns and the state are such as the entry points work on.
-use list_party::Call;
+use calls::Tallies;
 use list_party::Party;
 use list_party::Place;
 use list_party::State;
-use list_rows::Row;
+use list_rows::END;
+use list_rows::ITEM;
+use list_rows::SPLICE;
+use list_rows::UNUSED;
 ghost use mathlib.Core.Path.{_≡_};
 ghost use Prim.Native.Nat.{_+_};
 ghost use lib.ListN.{length};
-ghost use Rattle.list_rows.specs.Table.{tab};
-ghost use Rattle.list_unchecked.specs.Bare.{machine};
+ghost use Rattle.list_rows.specs.Table.{before};
+ghost use Rattle.list_unchecked.specs.Unchecked.{machine};
 ghost use Rattle.list_form.specs.Form.{
   columnsAgree,
   takenFits,
@@ -18,29 +21,25 @@ ghost use Rattle.list_form.specs.Form.{
   kindsFit,
   keysFit,
   linksFit,
+  goodRows,
   rowsBelow,
-  keeping,
   keptAt,
-  isRemove,
-  isAdd,
-  isContains,
   removing,
-  marked,
   othersZero,
   canReach,
   noneOrSpare,
   ownFits,
   recordFits,
-  isIdle,
   partyFits,
   partiesFit,
   countFits,
   talliesFit,
+  goodParties,
   goodForm,
 };
 
-// Which of its values a party keeps.
-struct Keeps {
+// Which of its values a party kept.
+struct Kept {
     p: bool,
     n: bool,
     c: bool,
@@ -67,12 +66,12 @@ fn kind_fits(taken: usize, row: usize, kind: u8) -> bool
     ensures { λ r. ⌜ r ≡ kindFits taken row kind ⌝ }
 {
     if row < 4 {
-        return kind == Row::END;
+        return kind == END;
     }
     if row < taken {
-        return (kind == Row::ITEM) | (kind == Row::SPLICE);
+        return (kind == ITEM) | (kind == SPLICE);
     }
-    kind == 0
+    kind == UNUSED
 }
 
 // Whether a row may have a key.
@@ -146,60 +145,74 @@ fn rows_below(taken: u16, party: Party) -> bool
         & (party.own < taken)
 }
 
-// A place's row in the table of the values kept.
-fn keeping(p: bool, n: bool, c: bool, s: bool, r: bool) -> Keeps
-    ensures { λ made. ⌜ made ≡ keeping p n c s r ⌝ }
-{
-    Keeps { p, n, c, s, r }
-}
-
-// The values that a place keeps.
-fn kept_at(place: Place) -> Keeps
+// The values that a place kept.
+fn kept_at(place: Place) -> Kept
     ensures { λ r. ⌜ r ≡ keptAt place ⌝ }
 {
     match place {
-        Place::Idle => keeping(false, false, false, false, false),
-        Place::Walk(_, _) => keeping(true, true, true, false, false),
-        Place::Skip(_, _) => keeping(true, true, true, false, false),
-        Place::AddSwap(_, _) => keeping(true, true, false, false, false),
-        Place::Mark(_, _) => keeping(true, true, true, true, false),
-        Place::Reread(_, _) => keeping(true, true, true, false, false),
-        Place::Clean(_, _) => keeping(true, true, false, false, true),
-        Place::Back(_, _) => keeping(true, false, false, false, false),
-        Place::Look(_, _) => keeping(false, false, true, false, false),
-    }
-}
-
-// The call is an ADD.
-fn is_add(call: Call) -> bool
-    ensures { λ r. ⌜ r ≡ isAdd call ⌝ }
-{
-    match call {
-        Call::Add => true,
-        Call::Remove => false,
-        Call::Contains => false,
-    }
-}
-
-// The call is a REMOVE.
-fn is_remove(call: Call) -> bool
-    ensures { λ r. ⌜ r ≡ isRemove call ⌝ }
-{
-    match call {
-        Call::Add => false,
-        Call::Remove => true,
-        Call::Contains => false,
-    }
-}
-
-// The call is a CONTAINS.
-pub fn is_contains(call: Call) -> bool
-    ensures { λ r. ⌜ r ≡ isContains call ⌝ }
-{
-    match call {
-        Call::Add => false,
-        Call::Remove => false,
-        Call::Contains => true,
+        Place::Idle => Kept {
+            p: false,
+            n: false,
+            c: false,
+            s: false,
+            r: false,
+        },
+        Place::Walk(_, _) => Kept {
+            p: true,
+            n: true,
+            c: true,
+            s: false,
+            r: false,
+        },
+        Place::Skip(_, _) => Kept {
+            p: true,
+            n: true,
+            c: true,
+            s: false,
+            r: false,
+        },
+        Place::AddSwap(_, _) => Kept {
+            p: true,
+            n: true,
+            c: false,
+            s: false,
+            r: false,
+        },
+        Place::Mark(_, _) => Kept {
+            p: true,
+            n: true,
+            c: true,
+            s: true,
+            r: false,
+        },
+        Place::Reread(_, _) => Kept {
+            p: true,
+            n: true,
+            c: true,
+            s: false,
+            r: false,
+        },
+        Place::Clean(_, _) => Kept {
+            p: true,
+            n: true,
+            c: false,
+            s: false,
+            r: true,
+        },
+        Place::Back(_, _) => Kept {
+            p: true,
+            n: false,
+            c: false,
+            s: false,
+            r: false,
+        },
+        Place::Look(_, _) => Kept {
+            p: false,
+            n: false,
+            c: true,
+            s: false,
+            r: false,
+        },
     }
 }
 
@@ -209,28 +222,28 @@ fn removing(place: Place) -> bool
 {
     match place {
         Place::Idle => false,
-        Place::Walk(call, _) => is_remove(call),
-        Place::Skip(call, _) => is_remove(call),
-        Place::AddSwap(call, _) => is_remove(call),
-        Place::Mark(call, _) => is_remove(call),
-        Place::Reread(call, _) => is_remove(call),
-        Place::Clean(call, _) => is_remove(call),
-        Place::Back(call, _) => is_remove(call),
-        Place::Look(call, _) => is_remove(call),
+        Place::Walk(call, _) => call.is_remove(),
+        Place::Skip(call, _) => call.is_remove(),
+        Place::AddSwap(call, _) => call.is_remove(),
+        Place::Mark(call, _) => call.is_remove(),
+        Place::Reread(call, _) => call.is_remove(),
+        Place::Clean(call, _) => call.is_remove(),
+        Place::Back(call, _) => call.is_remove(),
+        Place::Look(call, _) => call.is_remove(),
     }
 }
 
 // Whether what has no use is 0; a marked REMOVE has a use for r wherever it is.
-fn others_zero(keeps: Keeps, party: Party) -> bool
-    ensures { λ r. ⌜ r ≡ othersZero keeps party ⌝ }
+fn others_zero(kept: Kept, party: Party) -> bool
+    ensures { λ r. ⌜ r ≡ othersZero kept party ⌝ }
 {
     let place = party.place;
     let marked = removing(place) & !party.unpublished;
-    (keeps.p | (party.p == 0))
-        & (keeps.n | (party.n == 0))
-        & (keeps.c | (party.c == 0))
-        & (keeps.s | (party.s == 0))
-        & (keeps.r | marked | (party.r == 0))
+    (kept.p | (party.p == 0))
+        & (kept.n | (party.n == 0))
+        & (kept.c | (party.c == 0))
+        & (kept.s | (party.s == 0))
+        & (kept.r | marked | (party.r == 0))
 }
 
 // Whether the party's call can reach its place.
@@ -239,14 +252,14 @@ fn can_reach(place: Place) -> bool
 {
     match place {
         Place::Idle => true,
-        Place::Walk(call, _) => is_add(call) | is_remove(call),
-        Place::Skip(call, _) => is_add(call),
-        Place::AddSwap(call, _) => is_add(call),
-        Place::Mark(call, _) => is_remove(call),
-        Place::Reread(call, _) => is_remove(call),
-        Place::Clean(call, _) => is_remove(call),
-        Place::Back(call, _) => is_add(call) | is_remove(call),
-        Place::Look(call, _) => is_contains(call),
+        Place::Walk(call, _) => call.is_add() | call.is_remove(),
+        Place::Skip(call, _) => call.is_add(),
+        Place::AddSwap(call, _) => call.is_add(),
+        Place::Mark(call, _) => call.is_remove(),
+        Place::Reread(call, _) => call.is_remove(),
+        Place::Clean(call, _) => call.is_remove(),
+        Place::Back(call, _) => call.is_add() | call.is_remove(),
+        Place::Look(call, _) => call.is_contains(),
     }
 }
 
@@ -263,13 +276,13 @@ fn own_fits(place: Place, own: u16, unpublished: bool) -> bool
 {
     match place {
         Place::Idle => none_or_spare(own, unpublished),
-        Place::Walk(call, _) => (4 <= own) & (unpublished | !is_add(call)),
+        Place::Walk(call, _) => (4 <= own) & (unpublished | !call.is_add()),
         Place::Skip(_, _) => (4 <= own) & unpublished,
         Place::AddSwap(_, _) => (4 <= own) & unpublished,
         Place::Mark(_, _) => (4 <= own) & unpublished,
         Place::Reread(_, _) => (4 <= own) & unpublished,
         Place::Clean(_, _) => (4 <= own) & !unpublished,
-        Place::Back(call, _) => (4 <= own) & (unpublished == is_add(call)),
+        Place::Back(call, _) => (4 <= own) & (unpublished == call.is_add()),
         Place::Look(_, _) => none_or_spare(own, unpublished),
     }
 }
@@ -285,29 +298,12 @@ fn record_fits(taken: u16, party: Party) -> bool
         & own_fits(place, party.own, party.unpublished)
 }
 
-// The party has no call.
-pub fn is_idle(place: Place) -> bool
-    ensures { λ r. ⌜ r ≡ isIdle place ⌝ }
-{
-    match place {
-        Place::Idle => true,
-        Place::Walk(_, _) => false,
-        Place::Skip(_, _) => false,
-        Place::AddSwap(_, _) => false,
-        Place::Mark(_, _) => false,
-        Place::Reread(_, _) => false,
-        Place::Clean(_, _) => false,
-        Place::Back(_, _) => false,
-        Place::Look(_, _) => false,
-    }
-}
-
 // Whether the record of party i fits; a place that no party uses is blank.
 fn party_fits(taken: u16, count: u8, i: u32, party: Party) -> bool
     ensures { λ r. ⌜ r ≡ partyFits taken count i party ⌝ }
 {
     let place = party.place;
-    record_fits(taken, party) & ((i < (count as u32)) | is_idle(place) & (party.own == 0))
+    record_fits(taken, party) & ((i < (count as u32)) | place.is_idle() & (party.own == 0))
 }
 
 // Whether all sixteen fit.
@@ -332,23 +328,36 @@ fn count_fits(count: u8) -> bool
 }
 
 // Whether the tallies fit each other and the limit of moves.
-fn tallies_fit(moves: u32, won: u32, lost: u32) -> bool
-    ensures { λ r. ⌜ r ≡ talliesFit moves won lost ⌝ }
+fn tallies_fit(tallies: Tallies) -> bool
+    ensures { λ r. ⌜ r ≡ talliesFit tallies ⌝ }
 {
-    ((won as u64) + (lost as u64) <= (moves as u64)) & (moves <= 16777216)
+    let swaps = (tallies.won as u64) + (tallies.lost as u64);
+    (swaps <= (tallies.moves as u64)) & (tallies.moves <= 16777216)
+}
+
+// The rows' part of good form, with so many rows taken.
+fn good_rows(kind: &[u8], key: &[u32], next: &[u16], back: &[u16], taken: u16) -> bool
+    ensures { λ r. ⌜ r ≡ goodRows (before kind key next back) taken ⌝ }
+{
+    columns_agree(kind.len(), key.len(), next.len(), back.len())
+        & taken_fits(taken, kind.len())
+        & kinds_fit(kind, taken)
+        & keys_fit(key, taken)
+        & links_fit(next, taken)
+        & links_fit(back, taken)
+}
+
+// The parties' part of good form.
+fn good_parties(state: State) -> bool
+    ensures { λ r. ⌜ r ≡ goodParties state ⌝ }
+{
+    let tallies = state.tallies;
+    count_fits(state.count) & parties_fit(state) & tallies_fit(tallies)
 }
 
 // Whether the columns and the state have good form.
 pub fn good_form(kind: &[u8], key: &[u32], next: &[u16], back: &[u16], state: State) -> bool
-    ensures { λ r. ⌜ r ≡ goodForm (machine (tab (now (kind .entry)) (now (key .entry)) (now (next .entry)) (now (back .entry))) state) ⌝ }
+    ensures { λ r. ⌜ r ≡ goodForm (machine (before kind key next back) state) ⌝ }
 {
-    columns_agree(kind.len(), key.len(), next.len(), back.len())
-        & taken_fits(state.taken, kind.len())
-        & kinds_fit(kind, state.taken)
-        & keys_fit(key, state.taken)
-        & links_fit(next, state.taken)
-        & links_fit(back, state.taken)
-        & count_fits(state.count)
-        & parties_fit(state)
-        & tallies_fit(state.moves, state.won, state.lost)
+    good_rows(kind, key, next, back, state.taken) & good_parties(state)
 }

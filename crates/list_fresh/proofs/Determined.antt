@@ -4,11 +4,8 @@ use Rattle.logic.specs.Outcome.{OneOutcome}
 use Rattle.logic.proofs.Outcome.{by-equation}
 use Rattle.list_rows.specs.Table.{tab}
 use Rattle.list_fresh.proofs.fresh_table.Reads as fresh-table
-use Rattle.list_fresh.proofs.resting_state.Reads as resting-state
 
 -- the four columns, as one table
-pub fresh-table-fixed : OneOutcome fresh-table.Post (λ κs answer exit. tab (exit .0 .now) (exit .1 .0 .now) (exit .1 .1 .0 .now) (exit .1 .1 .1 .0 .now))
+pub fresh-table-fixed : OneOutcome fresh-table.Post
+    (λ κs answer exit. tab (exit .0 .now) (exit .1 .0 .now) (exit .1 .1 .0 .now) (exit .1 .1 .1 .0 .now))
 fresh-table-fixed κs given answer₁ answer₂ exit₁ exit₂ = by-equation
-
-pub resting-state-fixed : OneOutcome resting-state.Post (λ κs answer exit. answer)
-resting-state-fixed κs given answer₁ answer₂ exit₁ exit₂ = by-equation

@@ -1,20 +1,23 @@
--- What set-up lays down (document 01, "Rows and parties", first paragraph).
+-- What set-up lays down in the columns (document 01, "Rows and parties", first paragraph).
 use mathlib.Core.List.{List}
 use Prim.Native.Nat.{ℕ}
-use lib.ListN.{replicate}
+use lib.ListN.{length}
 use Rattle.columns.specs.Column.{put, zeros}
-use Rattle.list_rows.specs.Table.{Table, tab}
-use Rattle.list_party.specs.declared.State.{State}
-use Rattle.list_party.specs.Party.{blank}
+use Rattle.list_rows.specs.Table.{Table, tab, head, headNxt, tail, tailNxt}
 
--- four entries for rows 0 to 3
+-- a column with four entries for the end rows, in their order
 abbrev pub ends : List ℕ → (a b c d : ℕ) → List ℕ
-ends column a b c d = put (put (put (put column 0 a) 1 b) 2 c) 3 d
+ends column a b c d = put (put (put (put column head a) headNxt b) tail c) tailNxt d
 
--- the four end rows follow each other, the last one itself; nothing else is there
+-- columns of these lengths: the end rows have kind 1 and follow each other, the last one itself; all else is 0
+abbrev pub freshColumns : (kinds keys nexts backs : ℕ) → Table
+freshColumns kinds keys nexts backs =
+    tab (ends (zeros kinds) 1 1 1 1) (zeros keys) (ends (zeros nexts) headNxt tail tailNxt tailNxt) (zeros backs)
+
+-- an empty list of so many rows
 abbrev pub freshTable : (rows : ℕ) → Table
-freshTable rows = tab (ends (zeros rows) 1 1 1 1) (zeros rows) (ends (zeros rows) 1 2 3 3) (zeros rows)
+freshTable rows = freshColumns rows rows rows rows
 
--- all parties at rest, so many rows taken, nothing counted yet
-abbrev pub restingState : (parties taken : ℕ) → State
-restingState parties taken = record { parties = replicate 16 blank; count = parties; taken = taken; moves = 0; won = 0; lost = 0 }
+-- each column of a table made that of an empty list, by its own length
+abbrev pub emptied : Table → Table
+emptied t = freshColumns (length (t .kind)) (length (t .key)) (length (t .next)) (length (t .back))

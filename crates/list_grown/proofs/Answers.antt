@@ -9,16 +9,16 @@ use lib.ListN.{length}
 use lib.Seq.{getD-set-same}
 use Rattle.refusal.specs.Answer.{accepted, passed}
 use Rattle.logic.proofs.Tests.{and-left, and-right, and-both}
-use Rattle.list_party.specs.declared.Call.{Call}
-use Rattle.list_party.specs.declared.Call.the-variants.{Add, Remove, Contains}
+use Rattle.calls.specs.declared.Call.{Call}
+use Rattle.calls.specs.declared.Call.the-variants.{Add, Remove, Contains}
 use Rattle.list_party.specs.declared.Party.{Party}
-use Rattle.list_party.specs.Party.{blank, starting, looking}
-use Rattle.list_moves.specs.declared.Said.{Said}
-use Rattle.list_moves.specs.declared.Said.the-variants.{Yes, No}
-use Rattle.list_unchecked.specs.Bare.{Machine, partyOf, ownRow, takenThen, begunOf, bareCallOf, bareMoveOf}
-use Rattle.list_form.specs.Form.{isRemove, isIdle}
-use Rattle.list.specs.Engine.{liveKeys, callNamed, callOf, moveTests}
-use Rattle.list.specs.Run.{calls, quiet, turnOf, run}
+use Rattle.list_party.specs.Party.{blank, starting, looking, isIdle}
+use Rattle.calls.specs.declared.Said.{Said}
+use Rattle.calls.specs.declared.Said.the-variants.{Yes, No}
+use Rattle.list_unchecked.specs.Unchecked.{Machine, partyOf, ownRow, takenThen, begunOf, uncheckedCall, uncheckedMove}
+use Rattle.calls.specs.Calls.{isRemove, callNamed}
+use Rattle.list.specs.Engine.{liveKeys, callOf, moveTests}
+use Rattle.list.specs.Run.{calls, quiet, eventOf, run}
 use Rattle.list_world.proofs.Live.{LiveRank}
 use Rattle.logic.specs.Keys.{has}
 use Rattle.list_grown.specs.History.{History, keyFits, isAccepted, accepts, acceptsAll, Accepted, start, grown}
@@ -39,32 +39,32 @@ use Rattle.list_grown.proofs.Since.{Sometime, Serving, Marks, Following
 run-both : (early late : History) (m : Machine) → run m (early ++ late) ≡ run (run m early) late
 unfolding run
 run-both [] late m = refl
-run-both (first ∷ early) late m = run-both early late (turnOf m first .memory)
+run-both (first ∷ early) late m = run-both early late (eventOf m first .memory)
 
 accepted-both : (early late : History) (m : Machine) → Accepted m (early ++ late) → Accepted m early × Accepted (run m early) late
 unfolding run acceptsAll
 accepted-both [] late m ok = (refl, ok)
 accepted-both (first ∷ early) late m ok =
-    let m′ = turnOf m first .memory in
+    let m′ = eventOf m first .memory in
     let rest = accepted-both early late m′ (and-right (accepts m first) (acceptsAll m′ (early ++ late)) ok) in
     (and-both (and-left (accepts m first) (acceptsAll m′ (early ++ late)) ok) (rest .0), rest .1)
 
 -- ---- the call
 
 module _ (m : Machine) (i k : ℕ) where
-  call-serves : (name : Call) → i < length (m .state .parties) → Serving i k name (bareCallOf m i name k)
-  unfolding bareCallOf begunOf
+  call-serves : (name : Call) → i < length (m .state .parties) → Serving i k name (uncheckedCall m i name k)
+  unfolding uncheckedCall begunOf
   call-serves Add h busy = rw (getD-set-same (m .state .parties) i (starting Add k (ownRow (m .state) (partyOf m i))) blank h) (walk refl)
   call-serves Remove h busy = rw (getD-set-same (m .state .parties) i (starting Remove k (ownRow (m .state) (partyOf m i))) blank h) (walk refl)
   call-serves Contains h busy = rw (getD-set-same (m .state .parties) i (looking (partyOf m i) Contains k 1) blank h) look
 
   -- a REMOVE or a CONTAINS
-  call-starts : (code : ℕ) → (code ≡ 1) ⊎ (code ≡ 2) → Starts m i k (bareCallOf m i (callNamed code) k)
-  unfolding bareCallOf begunOf
+  call-starts : (code : ℕ) → (code ≡ 1) ⊎ (code ≡ 2) → Starts m i k (uncheckedCall m i (callNamed code) k)
+  unfolding uncheckedCall begunOf
   call-starts code (inl e) = rw e (removes (ownRow (m .state) (partyOf m i)) (takenThen (m .state) (partyOf m i)))
   call-starts code (inr e) = rw e asks-for
 
-  call-leaves : (code : ℕ) → accepts m (calls i code k) ≡ true → turnOf m (calls i code k) .memory ≡ bareCallOf m i (callNamed code) k
+  call-leaves : (code : ℕ) → accepts m (calls i code k) ≡ true → eventOf m (calls i code k) .memory ≡ uncheckedCall m i (callNamed code) k
   call-leaves code e =
       let ok : isAccepted (quiet (callOf m i code k .answer)) ≡ true =
       and-right (keyFits (calls i code k)) (isAccepted (quiet (callOf m i code k .answer))) e in
@@ -92,7 +92,7 @@ module _ (a : Asked) (said : Said) (w : Answered a said) where
   m = grown (a .table) (a .parties) (a .before)
 
   abbrev m′ : Machine
-  m′ = turnOf m (call a) .memory
+  m′ = eventOf m (call a) .memory
 
   all : Accepted (start (a .table) (a .parties)) (a .before) × Accepted m (call a ∷ a .since)
   all = accepted-both (a .before) (call a ∷ a .since) (start (a .table) (a .parties)) (w .grows .accepted)
@@ -122,7 +122,7 @@ module _ (a : Asked) (said : Said) (w : Answered a said) where
   known : i < length (m .state .parties)
   known = inside none (a .parties) m (call a) healthy this
 
-  leaves : m′ ≡ bareCallOf m i (callNamed (a .code)) k
+  leaves : m′ ≡ uncheckedCall m i (callNamed (a .code)) k
   leaves = call-leaves m i k (a .code) this
 
   -- ---- where the answer is given
@@ -140,7 +140,7 @@ module _ (a : Asked) (said : Said) (w : Answered a said) where
   busy = move-asked (found a) i passes .1
 
   said-is : saidBy (found a) i ≡ said
-  unfolding bareMoveOf
+  unfolding uncheckedMove
   said-is = let e : accepted (saidBy (found a) i) ≡ accepted said = sym (ap (λ l. l .answer) (move-is (found a) i passes)) ∙ w .answer in cc
 
   told : Told (worldOf none (found a)) q (q .place) said

@@ -11,15 +11,16 @@ use lib.ListN.{length, length-set}
 use Rattle.refusal.specs.Answer.{Tests, passed, accepted, refused, Left, left, leaving}
 use Rattle.columns.proofs.Laws.{writes-nothing-past, reads-what-was-put, keeps-other-rows, keeps-length}
 use Rattle.list_rows.specs.declared.Write.{Write}
-use Rattle.list_rows.specs.declared.Write.the-variants.{Keep, Link, Splice, Item}
+use Rattle.list_rows.specs.declared.Write.the-variants.{Untouched, Link, Splice, Item}
 use Rattle.list_rows.specs.Table.{Table, backAt, isSplice, withRow}
 use Rattle.list_rows.specs.Writes.{written}
-use Rattle.list_unchecked.specs.Bare.{Machine, partyOf, begunOf, bareCallOf, bareMoveOf}
+use Rattle.list_unchecked.specs.Unchecked.{Machine, partyOf, begunOf, uncheckedCall, uncheckedMove}
 use Rattle.list_moves.specs.Moves.{placeOf}
 use Rattle.list_fresh.specs.Fresh.{freshTable}
 use Rattle.list_form.specs.Form.{rowsIn}
-use Rattle.list.specs.Engine.{callNamed, callTests, callOf, moveTests, accepting, moveOf}
-use Rattle.list.specs.Run.{Event, calls, moves, turnOf, run}
+use Rattle.list.specs.Engine.{callTests, callOf, moveTests, accepting, moveOf}
+use Rattle.calls.specs.Calls.{callNamed}
+use Rattle.list.specs.Run.{Event, calls, moves, eventOf, run}
 use Rattle.list.proofs.Laws.{repeat-at}
 use Rattle.logic.proofs.Cases.{by-row}
 use Rattle.list_grown.specs.History.{History, start}
@@ -66,7 +67,7 @@ module _ (t : Table) (b : Backed t) (row kind key next back : ℕ) (fits : (kind
 
 write-keeps : (write : Write) (t : Table) → Backed t → Backed (written write t)
 unfolding after
-write-keeps Keep t b = b
+write-keeps Untouched t b = b
 write-keeps (Link row to) t b = record { even = b .even; none = b .none }
 write-keeps (Splice row to from) t b = with-row t b row 3 0 to from (inl refl)
 write-keeps (Item row key) t b = with-row t b row 2 key 0 0 (inr refl)
@@ -78,19 +79,19 @@ leaving-keeps : {A : Type 0} (tests : Tests) (found : Machine) (changed : Left M
 leaving-keeps (accepted done) found changed old new = new
 leaving-keeps (refused number) found changed old new = old
 
-turn-keeps : (m : Machine) (event : Event) → Backed (m .table) → Backed (turnOf m event .memory .table)
-unfolding callOf moveOf bareCallOf bareMoveOf
+turn-keeps : (m : Machine) (event : Event) → Backed (m .table) → Backed (eventOf m event .memory .table)
+unfolding callOf moveOf uncheckedCall uncheckedMove
 turn-keeps m (calls party code key) b =
-    leaving-keeps (callTests m party code) m (left (bareCallOf m party (callNamed code) key) passed) b
+    leaving-keeps (callTests m party code) m (left (uncheckedCall m party (callNamed code) key) passed) b
     (write-keeps (begunOf (m .state) (partyOf m party) (callNamed code) key .write) (m .table) b)
 turn-keeps m (moves party) b =
-    leaving-keeps (moveTests m party) m (accepting (bareMoveOf m party)) b
+    leaving-keeps (moveTests m party) m (accepting (uncheckedMove m party)) b
     (write-keeps (placeOf (partyOf m party .place) (m .table) (partyOf m party) .write) (m .table) b)
 
 run-keeps : (history : History) (m : Machine) → Backed (m .table) → Backed (run m history .table)
 unfolding run
 run-keeps [] m b = b
-run-keeps (first ∷ rest) m b = run-keeps rest (turnOf m first .memory) (turn-keeps m first b)
+run-keeps (first ∷ rest) m b = run-keeps rest (eventOf m first .memory) (turn-keeps m first b)
 
 fresh-backed : (rows : ℕ) → Backed (freshTable rows)
 fresh-backed rows = record {

@@ -9,20 +9,20 @@ use native.Mathlib.Nat.{le-refl}
 use native.Mathlib.Omega.{arith}
 use lib.Seq.{getD-set-other}
 use Rattle.list_rows.specs.declared.Write.{Write}
-use Rattle.list_rows.specs.declared.Write.the-variants.{Keep, Link, Splice, Item}
+use Rattle.list_rows.specs.declared.Write.the-variants.{Untouched, Link, Splice, Item}
 use Rattle.list_rows.specs.Table.{Table, nextAt}
 use Rattle.list_rows.specs.Writes.{written}
-use Rattle.list_party.specs.declared.Call.the-variants.{Add, Remove, Contains}
+use Rattle.calls.specs.declared.Call.the-variants.{Add, Remove, Contains}
 use Rattle.list_party.specs.declared.Place.{Place}
 use Rattle.list_party.specs.declared.Place.the-variants.{Idle, Walk, Skip, AddSwap, Mark, Reread, Clean, Back, Look}
 use Rattle.list_party.specs.declared.Party.{Party}
-use Rattle.list_party.specs.declared.Access.{Access}
-use Rattle.list_party.specs.declared.Access.the-variants.{None, Read, Won, Lost}
+use Rattle.calls.specs.declared.Access.{Access}
+use Rattle.calls.specs.declared.Access.the-variants.{None, Read, Won, Lost}
 use Rattle.list_party.specs.Party.{idling, published, walking, adding, backing, marking, rereading, cleaning}
-use Rattle.list_moves.specs.declared.Said.{Said}
+use Rattle.calls.specs.declared.Said.{Said}
 use Rattle.list_moves.specs.declared.Moved.{Moved}
 use Rattle.list_moves.specs.Moves.{reads, answers, wins, loses}
-use Rattle.list_unchecked.specs.Bare.{Machine, partyOf}
+use Rattle.list_unchecked.specs.Unchecked.{Machine, partyOf}
 use Rattle.list_form.specs.Form.{removing}
 use Rattle.logic.specs.Sum.{oneIf}
 use Rattle.list_world.proofs.World.{World, Intact}
@@ -138,7 +138,7 @@ accessOf lost = Lost
 
 -- a move makes no item: only a call does
 abbrev pub NoItem : Write → Type 0
-NoItem Keep = Unit {0}
+NoItem Untouched = Unit {0}
 NoItem (Link row to) = Unit {0}
 NoItem (Splice row to from) = Unit {0}
 NoItem (Item row key) = ⊥
@@ -185,8 +185,8 @@ module _ (orphan : ℕ → Bool) (m : Machine) (v : Inv (viewOf orphan m)) (i : 
   }
 
   walks : (l : Place) (q′ : Party) → stale (λ row. nextAt t row) q′ (q′ .place) ≤ stale (λ row. nextAt t row) q l
-      → owes (q′ .place) (q′ .unpublished) ≤ owes l (q .unpublished) → q′ .unpublished ≡ q .unpublished → Books l (reads q′ Keep) read
-  walks l q′ b c e = goes l q′ Keep tt (λ y k. refl) b c e
+      → owes (q′ .place) (q′ .unpublished) ≤ owes l (q .unpublished) → q′ .unpublished ≡ q .unpublished → Books l (reads q′ Untouched) read
+  walks l q′ b c e = goes l q′ Untouched tt (λ y k. refl) b c e
 
   says : (l : Place) (said : Said) → Books l (answers q said) read
   says l said = record { access = refl; plain = tt; mine = omega arith; pays = omega arith; held = omega arith; cell = 0; but = λ y k. inl refl }

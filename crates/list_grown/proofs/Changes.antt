@@ -6,7 +6,7 @@ use mathlib.Core.Logic.{inl, inr, ⊎-elim}
 use mathlib.Core.List.{List}
 use mathlib.Core.Bool.{Bool, true, false}
 use native.Mathlib.Omega.{arith}
-use Rattle.list_unchecked.specs.Bare.{Machine}
+use Rattle.list_unchecked.specs.Unchecked.{Machine}
 use Rattle.list.specs.Engine.{liveKeys}
 use Rattle.list_world.proofs.World.{World}
 use Rattle.list_world.proofs.Live.{Effect, still, gain, lose}

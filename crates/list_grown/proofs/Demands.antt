@@ -13,11 +13,11 @@ use borrow.Author.Tests.{le-ltb}
 use Rattle.logic.proofs.Tests.{and-left, and-right}
 use Rattle.list_rows.specs.Table.{Table}
 use Rattle.list_party.specs.declared.Place.the-variants.{Idle}
-use Rattle.list_party.specs.Party.{blank}
-use Rattle.list_unchecked.specs.Bare.{Machine, partyOf}
-use Rattle.list_form.specs.Form.{isIdle, recordFits}
+use Rattle.list_party.specs.Party.{blank, isIdle}
+use Rattle.list_unchecked.specs.Unchecked.{Machine, partyOf}
+use Rattle.list_form.specs.Form.{recordFits}
 use Rattle.list_form.proofs.Good.{Good, good}
-use Rattle.list.specs.Run.{turnOf}
+use Rattle.list.specs.Run.{eventOf}
 use Rattle.list_grown.specs.History.{History, start, Grows, grown}
 use Rattle.list_grown.specs.Counts.{Counts, plus, tally}
 use Rattle.list_grown.specs.Deeds.{deedOf, countsOf}
@@ -64,7 +64,7 @@ demand2 t parties history event g accepted =
     let s = healthy t parties history g in
     let m = grown t parties history in
     let turn = turn-of none parties m event s accepted in
-    changes none m (turnOf m event .memory) (s .inv) (turn .steady .inv) (deedOf m event) (partyOf m (whose event) .own) (turn .steady .live)
+    changes none m (eventOf m event .memory) (s .inv) (turn .steady .inv) (deedOf m event) (partyOf m (whose event) .own) (turn .steady .live)
 
 -- one factor less
 fewer : (parties lost won : ℕ) → 1 ≤ parties → lost + won ≤ parties * won → lost ≤ (parties - 1) * won

@@ -7,17 +7,17 @@ use mathlib.Core.Bool.{true, false, not, cond, _&&_, _||_, true≢false}
 use native.Mathlib.Omega.{arith}
 use lib.Dec.{eqb}
 use borrow.Author.Tests.{ltb-true, ltb-false, eqb-true, eqb-false}
-use Rattle.list_rows.specs.declared.Write.the-variants.{Keep, Link, Splice}
+use Rattle.list_rows.specs.declared.Write.the-variants.{Untouched, Link, Splice}
 use Rattle.list_rows.specs.Table.{Table, kindAt, keyAt, nextAt, backAt, isSplice}
 use Rattle.list_rows.specs.Order.{endRank, rank, rankAt, belowKey, equalsKey}
-use Rattle.list_party.specs.declared.Call.{Call}
-use Rattle.list_party.specs.declared.Call.the-variants.{Add, Remove, Contains}
+use Rattle.calls.specs.declared.Call.{Call}
+use Rattle.calls.specs.declared.Call.the-variants.{Add, Remove, Contains}
 use Rattle.list_party.specs.declared.Place.{Place}
 use Rattle.list_party.specs.declared.Place.the-variants.{Idle, Walk, Skip, AddSwap, Mark, Reread, Clean, Back, Look}
 use Rattle.list_party.specs.declared.Party.{Party}
-use Rattle.list_party.specs.Party.{idling, published, walking, skipping, adding, marking, rereading, cleaning, backing, looking}
+use Rattle.list_party.specs.Party.{idling, published, walking, skipping, adding, marking, rereading, cleaning, backing, looking, isIdle}
 use Rattle.list_moves.specs.declared.Moved.{Moved}
-use Rattle.list_moves.specs.declared.Said.the-variants.{Nothing, Yes, No}
+use Rattle.calls.specs.declared.Said.the-variants.{Nothing, Yes, No}
 use Rattle.list_moves.specs.Moves.{
   reads,
   answers,
@@ -38,7 +38,6 @@ use Rattle.list_moves.specs.Moves.{
   lookOf,
   placeOf,
 }
-use Rattle.list_form.specs.Form.{isIdle}
 use Rattle.list_world.proofs.World.{World}
 use Rattle.logic.proofs.Cases.{by-test}
 use Rattle.list_grown.specs.Deeds.{Deed, read, added, marked, cleaned, lost, deedAt}
@@ -78,9 +77,9 @@ module _ (t : Table) (q : Party) where
 
   pub data Does : Place → Moved → Deed → Type 0 where
     passes : {call : Call} {k : ℕ} → rankAt t (q .c) < 3 + k → Removed t (q .c) →
-        Does (Walk call k) (reads (walking q call k (q .p) (q .n) (nextAt t s)) Keep) read
-    steps : {call : Call} {k : ℕ} → rankAt t (q .c) < 3 + k → Standing t (q .c) → Does (Walk call k) (reads (walking q call k (q .c) s s) Keep) read
-    add-skips : {k : ℕ} → 3 + k ≤ rankAt t (q .c) → Removed t (q .c) → Does (Walk Add k) (reads (skipping q Add k (q .p) (q .n) (nextAt t s)) Keep) read
+        Does (Walk call k) (reads (walking q call k (q .p) (q .n) (nextAt t s)) Untouched) read
+    steps : {call : Call} {k : ℕ} → rankAt t (q .c) < 3 + k → Standing t (q .c) → Does (Walk call k) (reads (walking q call k (q .c) s s) Untouched) read
+    add-skips : {k : ℕ} → 3 + k ≤ rankAt t (q .c) → Removed t (q .c) → Does (Walk Add k) (reads (skipping q Add k (q .p) (q .n) (nextAt t s)) Untouched) read
     add-finds : {k : ℕ} → rankAt t (q .c) ≡ 3 + k → Standing t (q .c) → Does (Walk Add k) (answers q No) read
     add-ready : {k : ℕ} → 3 + k ≤ rankAt t (q .c) → rankAt t (q .c) ≢ 3 + k →
         Does (Walk Add k) (reads (adding q Add k (q .p) (q .n)) (Link (q .own) (q .c))) read
@@ -89,9 +88,9 @@ module _ (t : Table) (q : Party) where
     cut-ready : {k : ℕ} → q .unpublished ≡ true → rankAt t (q .c) ≡ 3 + k → Standing t (q .c) →
         Does (Walk Remove k) (reads (marking q Remove k (q .p) (q .n) (q .c) s) (Splice (q .own) s (q .p))) read
     cut-again : {k : ℕ} → q .unpublished ≡ false → 3 + k ≤ rankAt t (q .c) → s ≡ q .own →
-        Does (Walk Remove k) (reads (cleaning q Remove k (q .p) (q .n) (q .r)) Keep) read
+        Does (Walk Remove k) (reads (cleaning q Remove k (q .p) (q .n) (q .r)) Untouched) read
     cut-done : {k : ℕ} → q .unpublished ≡ false → 3 + k ≤ rankAt t (q .c) → s ≢ q .own → Does (Walk Remove k) (answers q Yes) read
-    skips : {k : ℕ} → Removed t (q .c) → Does (Skip Add k) (reads (skipping q Add k (q .p) (q .n) (nextAt t s)) Keep) read
+    skips : {k : ℕ} → Removed t (q .c) → Does (Skip Add k) (reads (skipping q Add k (q .p) (q .n) (nextAt t s)) Untouched) read
     skip-ends : {k : ℕ} → Standing t (q .c) → Does (Skip Add k) (reads (adding q Add k (q .p) (q .n)) (Link (q .own) (q .c))) read
     add-wins : {k : ℕ} → nextAt t (q .p) ≡ q .n → Does (AddSwap Add k) (wins (idling (published q)) Yes (q .p) (q .own)) (added k)
     add-loses : {k : ℕ} → nextAt t (q .p) ≢ q .n → Does (AddSwap Add k) (loses (backing q Add k (q .p))) lost
@@ -101,10 +100,10 @@ module _ (t : Table) (q : Party) where
     rereads : {k : ℕ} → Standing t (q .c) → Does (Reread Remove k) (reads (marking q Remove k (q .p) (q .n) (q .c) s) (Link (q .own) s)) read
     clean-wins : {k : ℕ} → nextAt t (q .p) ≡ q .n → Does (Clean Remove k) (wins (idling q) Yes (q .p) (q .r)) cleaned
     clean-loses : {k : ℕ} → nextAt t (q .p) ≢ q .n → Does (Clean Remove k) (loses (backing q Remove k (q .p))) lost
-    backs : {call : Call} {k : ℕ} → Removed t (q .p) → Does (Back call k) (reads (backing q call k (backAt t (nextAt t (q .p)))) Keep) read
-    back-ends : {call : Call} {k : ℕ} → Standing t (q .p) → Does (Back call k) (reads (walking q call k (q .p) (nextAt t (q .p)) (nextAt t (q .p))) Keep) read
-    look-passes : {k : ℕ} → rankAt t (q .c) < 3 + k → Removed t (q .c) → Does (Look Contains k) (reads (looking q Contains k (nextAt t s)) Keep) read
-    look-steps : {k : ℕ} → rankAt t (q .c) < 3 + k → Standing t (q .c) → Does (Look Contains k) (reads (looking q Contains k s) Keep) read
+    backs : {call : Call} {k : ℕ} → Removed t (q .p) → Does (Back call k) (reads (backing q call k (backAt t (nextAt t (q .p)))) Untouched) read
+    back-ends : {call : Call} {k : ℕ} → Standing t (q .p) → Does (Back call k) (reads (walking q call k (q .p) (nextAt t (q .p)) (nextAt t (q .p))) Untouched) read
+    look-passes : {k : ℕ} → rankAt t (q .c) < 3 + k → Removed t (q .c) → Does (Look Contains k) (reads (looking q Contains k (nextAt t s)) Untouched) read
+    look-steps : {k : ℕ} → rankAt t (q .c) < 3 + k → Standing t (q .c) → Does (Look Contains k) (reads (looking q Contains k s) Untouched) read
     look-other : {k : ℕ} → 3 + k ≤ rankAt t (q .c) → rankAt t (q .c) ≢ 3 + k → Does (Look Contains k) (answers q No) read
     look-late : {k : ℕ} → rankAt t (q .c) ≡ 3 + k → Removed t (q .c) → Does (Look Contains k) (answers q No) read
     look-finds : {k : ℕ} → rankAt t (q .c) ≡ 3 + k → Standing t (q .c) → Does (Look Contains k) (answers q Yes) read
@@ -126,13 +125,13 @@ module _ (t : Table) (q : Party) where
   onward : (call : Call) (k : ℕ) → rankAt t (q .c) < 3 + k → Does (Walk call k) (onwardOf t q call k) read
   unfolding onwardOf
   onward call k l = by-test
-      (λ b. Does (Walk call k) (cond b (reads (walking q call k (q .p) (q .n) (nextAt t s)) Keep) (reads (walking q call k (q .c) s s) Keep)) read)
+      (λ b. Does (Walk call k) (cond b (reads (walking q call k (q .p) (q .n) (nextAt t s)) Untouched) (reads (walking q call k (q .c) s s) Untouched)) read)
       (isSplice t s) (λ b. passes l (splice-rank t s b)) (λ b. steps l (other-rank t s b))
 
   landed-add : (k : ℕ) → 3 + k ≤ rankAt t (q .c) → Does (Walk Add k) (landedAddOf t q k) read
   unfolding landedAddOf prepareOf
   landed-add k l = by-test
-      (λ b. Does (Walk Add k) (cond b (reads (skipping q Add k (q .p) (q .n) (nextAt t s)) Keep) (cond (equalsKey t (q .c) k) (answers q No) (prepareOf q Add k))) read)
+      (λ b. Does (Walk Add k) (cond b (reads (skipping q Add k (q .p) (q .n) (nextAt t s)) Untouched) (cond (equalsKey t (q .c) k) (answers q No) (prepareOf q Add k))) read)
       (isSplice t s) (λ b. add-skips l (splice-rank t s b))
       (λ b. by-test (λ e. Does (Walk Add k) (cond e (answers q No) (prepareOf q Add k)) read) (equalsKey t (q .c) k)
       (λ e. add-finds (equal k e) (other-rank t s b)) (λ e. add-ready l (other k e)))
@@ -146,7 +145,7 @@ module _ (t : Table) (q : Party) where
       (λ e. by-test (λ b. Does (Walk Remove k) (cond b (answers q No) ready) read) (isSplice t s)
       (λ b. cut-late u (equal k e) (splice-rank t s b)) (λ b. cut-ready u (equal k e) (other-rank t s b)))
       (λ e. cut-other u l (other k e)))
-      (λ u shown. by-test (λ e. Does (Walk Remove k) (cond e (reads (cleaning q Remove k (q .p) (q .n) (q .r)) Keep) (answers q Yes)) read) (eqb s (q .own))
+      (λ u shown. by-test (λ e. Does (Walk Remove k) (cond e (reads (cleaning q Remove k (q .p) (q .n) (q .r)) Untouched) (answers q Yes)) read) (eqb s (q .own))
       (λ e. cut-again u l (eqb-true s (q .own) e)) (λ e. cut-done u l (eqb-false s (q .own) e)))
       refl
     where
@@ -157,7 +156,7 @@ module _ (t : Table) (q : Party) where
       first = cond (not (equalsKey t (q .c) k) || isSplice t s) (answers q No) (reads (marking q Remove k (q .p) (q .n) (q .c) s) (Splice (q .own) s (q .p)))
 
       again : Moved
-      again = cond (eqb s (q .own)) (reads (cleaning q Remove k (q .p) (q .n) (q .r)) Keep) (answers q Yes)
+      again = cond (eqb s (q .own)) (reads (cleaning q Remove k (q .p) (q .n) (q .r)) Untouched) (answers q Yes)
 
   landed-look : (k : ℕ) → 3 + k ≤ rankAt t (q .c) → Does (Look Contains k) (landedContainsOf t q k) read
   unfolding landedContainsOf
@@ -181,7 +180,7 @@ module _ (t : Table) (q : Party) where
   does w (Walk Remove k) busy a = by-test (λ b. Does (Walk Remove k) (cond b (onwardOf t q Remove k) (landedRemoveOf t q k)) read) (belowKey t (q .c) k)
       (λ b. onward Remove k (below k b)) (λ b. landed-remove k (landed k b))
   does w (Skip Add k) busy a = by-test
-      (λ b. Does (Skip Add k) (cond b (reads (skipping q Add k (q .p) (q .n) (nextAt t s)) Keep) (prepareOf q Add k)) read)
+      (λ b. Does (Skip Add k) (cond b (reads (skipping q Add k (q .p) (q .n) (nextAt t s)) Untouched) (prepareOf q Add k)) read)
       (isSplice t s) (λ b. skips (splice-rank t s b)) (λ b. skip-ends (other-rank t s b))
   does w (AddSwap Add k) busy a = swap (q .p) (q .n) add-wins add-loses
   does w (Mark Remove k) busy a = swap (q .c) (q .s) mark-wins mark-loses
@@ -190,12 +189,12 @@ module _ (t : Table) (q : Party) where
       (isSplice t s) (λ b. rereads-late (splice-rank t s b)) (λ b. rereads (other-rank t s b))
   does w (Clean Remove k) busy a = swap (q .p) (q .n) clean-wins clean-loses
   does w (Back call k) busy a = by-test
-      (λ b. Does (Back call k) (cond b (reads (backing q call k (backAt t (nextAt t (q .p)))) Keep) (reads (walking q call k (q .p) (nextAt t (q .p)) (nextAt t (q .p))) Keep)) read)
+      (λ b. Does (Back call k) (cond b (reads (backing q call k (backAt t (nextAt t (q .p)))) Untouched) (reads (walking q call k (q .p) (nextAt t (q .p)) (nextAt t (q .p))) Untouched)) read)
       (isSplice t (nextAt t (q .p))) (λ b. backs (splice-rank t (nextAt t (q .p)) b)) (λ b. back-ends (other-rank t (nextAt t (q .p)) b))
   does w (Look Contains k) busy a = by-test
-      (λ b. Does (Look Contains k) (cond b (cond (isSplice t s) (reads (looking q Contains k (nextAt t s)) Keep) (reads (looking q Contains k s) Keep)) (landedContainsOf t q k)) read)
+      (λ b. Does (Look Contains k) (cond b (cond (isSplice t s) (reads (looking q Contains k (nextAt t s)) Untouched) (reads (looking q Contains k s) Untouched)) (landedContainsOf t q k)) read)
       (belowKey t (q .c) k)
-      (λ l. by-test (λ b. Does (Look Contains k) (cond b (reads (looking q Contains k (nextAt t s)) Keep) (reads (looking q Contains k s) Keep)) read) (isSplice t s)
+      (λ l. by-test (λ b. Does (Look Contains k) (cond b (reads (looking q Contains k (nextAt t s)) Untouched) (reads (looking q Contains k s) Untouched)) read) (isSplice t s)
       (λ b. look-passes (below k l) (splice-rank t s b)) (λ b. look-steps (below k l) (other-rank t s b)))
       (λ l. landed-look k (landed k l))
   -- the calls that do not come to a place

@@ -11,21 +11,23 @@ use Rattle.refusal.specs.Answer.{accepted, refused, Left, left, Tests, passed, 
 use Rattle.refusal.proofs.Laws.{past-test}
 use Rattle.logic.proofs.Tests.{and-left, and-right}
 use Rattle.list_rows.specs.declared.Write.{Write}
-use Rattle.list_rows.specs.declared.Write.the-variants.{Keep, Link, Splice, Item}
+use Rattle.list_rows.specs.declared.Write.the-variants.{Untouched, Link, Splice, Item}
 use Rattle.list_rows.specs.Table.{Table}
 use Rattle.list_rows.specs.Writes.{written}
-use Rattle.list_party.specs.declared.Call.{Call}
-use Rattle.list_party.specs.declared.Call.the-variants.{Add, Remove, Contains}
+use Rattle.calls.specs.declared.Call.{Call}
+use Rattle.calls.specs.declared.Call.the-variants.{Add, Remove, Contains}
 use Rattle.list_party.specs.declared.Place.{Place}
 use Rattle.list_party.specs.declared.Place.the-variants.{Idle, Walk, Skip, AddSwap, Mark, Reread, Clean, Back, Look}
-use Rattle.list_party.specs.Party.{oneMore}
-use Rattle.list_moves.specs.declared.Said.{Said}
+use Rattle.calls.specs.Tallies.{oneMore}
+use Rattle.calls.specs.declared.Said.{Said}
 use Rattle.list_moves.specs.Moves.{placeOf}
-use Rattle.list_unchecked.specs.Bare.{Machine, partyOf, startOf, begunOf, started, bareCallOf, bareMoveOf}
-use Rattle.list_form.specs.Form.{rowsIn, isIdle, isContains, goodForm}
+use Rattle.list_unchecked.specs.Unchecked.{Machine, partyOf, startOf, begunOf, started, uncheckedCall, uncheckedMove}
+use Rattle.list_form.specs.Form.{rowsIn, goodForm}
+use Rattle.calls.specs.Calls.{isContains, callNamed}
+use Rattle.list_party.specs.Party.{isIdle}
 use Rattle.list_form.proofs.Good.{Good, good}
-use Rattle.list.specs.Engine.{badTable, callNamed, noRow, callAsks, callTests, callOf, moveAsks, moveTests, accepting, moveOf}
-use Rattle.list.specs.Run.{Event, calls, moves, quiet, turnOf}
+use Rattle.list.specs.Engine.{badTable, noRow, callAsks, callTests, callOf, moveAsks, moveTests, accepting, moveOf}
+use Rattle.list.specs.Run.{Event, calls, moves, quiet, eventOf}
 use Rattle.list.proofs.Laws.{past-form, table-fits}
 use Rattle.list.proofs.Kept.{call-keeps, move-keeps}
 use Rattle.list_grown.specs.History.{isAccepted, accepts}
@@ -42,14 +44,14 @@ pub record Happens (m : Machine) (event : Event) : Type 0 where
   pub fits : badTable (m .table) ≡ false
   pub form : goodForm m ≡ true
   pub known : whose event < m .state .count
-  pub kept : goodForm (turnOf m event .memory) ≡ true
-  pub still-fits : badTable (turnOf m event .memory .table) ≡ false
-  pub turn : Turn m (whose event) (turnOf m event .memory) (deedOf m event)
+  pub kept : goodForm (eventOf m event .memory) ≡ true
+  pub still-fits : badTable (eventOf m event .memory .table) ≡ false
+  pub turn : Turn m (whose event) (eventOf m event .memory) (deedOf m event)
 
 -- ---- what is written leaves the columns as long as they were
 
 same-fits : (write : Write) (t : Table) → badTable (written write t) ≡ badTable t
-same-fits Keep t = refl
+same-fits Untouched t = refl
 same-fits (Link row to) t = rw (length-set (t .next) row to)
 same-fits (Splice row to from) t = rw (length-set (t .kind) row 3, length-set (t .key) row 0, length-set (t .next) row to, length-set (t .back) row from)
 same-fits (Item row key) t = rw (length-set (t .kind) row 2, length-set (t .key) row key, length-set (t .next) row 0, length-set (t .back) row 0)
@@ -61,20 +63,20 @@ move-passed (accepted done) m after e = refl
 move-passed (refused number) m after e = absurd (false≢true e)
 
 module _ (m : Machine) (i : ℕ) where
-  pub move-is : moveTests m i ≡ passed → moveOf m i ≡ accepting (bareMoveOf m i)
+  pub move-is : moveTests m i ≡ passed → moveOf m i ≡ accepting (uncheckedMove m i)
   unfolding moveOf
   move-is passes = rw passes
 
   pub move-tests : isAccepted (moveOf m i .answer) ≡ true → moveTests m i ≡ passed
   unfolding moveOf
-  move-tests e = move-passed (moveTests m i) m (accepting (bareMoveOf m i)) e
+  move-tests e = move-passed (moveTests m i) m (accepting (uncheckedMove m i)) e
 
-  bare-fits : badTable (m .table) ≡ false → badTable (bareMoveOf m i .after .table) ≡ false
-  unfolding bareMoveOf
+  bare-fits : badTable (m .table) ≡ false → badTable (uncheckedMove m i .after .table) ≡ false
+  unfolding uncheckedMove
   bare-fits fits = same-fits (placeOf (partyOf m i .place) (m .table) (partyOf m i) .write) (m .table) ∙ fits
 
-  bare-turn : isIdle (partyOf m i .place) ≡ false → Turn m i (bareMoveOf m i .after) (deedOf m (moves i))
-  unfolding bareMoveOf
+  bare-turn : isIdle (partyOf m i .place) ≡ false → Turn m i (uncheckedMove m i .after) (deedOf m (moves i))
+  unfolding uncheckedMove
   bare-turn busy = move-turn busy
 
   -- a party that moves is known, and has a call to answer
@@ -82,20 +84,20 @@ module _ (m : Machine) (i : ℕ) where
   move-asked passes =
       let idle : Bool = isIdle (partyOf m i .place) in
       let form = past-form m (moveAsks (m .state) i) passes in
-      let first = past-test (leb (m .state .count) i) 4 (refusing idle 8 (refusing (eqb (m .state .moves) 16777216) 9 passed)) (form .2) in
-      let second = past-test idle 8 (refusing (eqb (m .state .moves) 16777216) 9 passed) (first .1) in
+      let first = past-test (leb (m .state .count) i) 4 (refusing idle 8 (refusing (eqb (m .state .tallies .moves) 16777216) 9 passed)) (form .2) in
+      let second = past-test idle 8 (refusing (eqb (m .state .tallies .moves) 16777216) 9 passed) (first .1) in
       (leb-false (m .state .count) i (first .0), second .0)
 
   move-happens : isAccepted (moveOf m i .answer) ≡ true → Happens m (moves i)
   move-happens e =
       let passes : moveTests m i ≡ passed = move-tests e in
-      let is : moveOf m i ≡ accepting (bareMoveOf m i) = move-is passes in
+      let is : moveOf m i ≡ accepting (uncheckedMove m i) = move-is passes in
       let form = past-form m (moveAsks (m .state) i) passes in
       record {
         fits = form .0;
         form = form .1;
         known = move-asked passes .0;
-        kept = move-keeps m i (bareMoveOf m i .said) (ap (λ l. l .answer) is);
+        kept = move-keeps m i (uncheckedMove m i .said) (ap (λ l. l .answer) is);
         still-fits = rw is (bare-fits (form .0));
         turn = rw is (bare-turn (move-asked passes .1));
       }
@@ -134,29 +136,29 @@ module _ (m : Machine) (i key : ℕ) (fits : key < 4294967296) (g : Good m) (idl
       rw (lt-ltb T 65535 (omega arith)) (takes call key is fits idle shown there))
       refl room
 
-  call-turn : (call : Call) → noRow (partyOf m i .unpublished) T (rowsIn (m .table)) call ≡ false → Turn m i (bareCallOf m i call key) called
-  unfolding bareCallOf begunOf
+  call-turn : (call : Call) → noRow (partyOf m i .unpublished) T (rowsIn (m .table)) call ≡ false → Turn m i (uncheckedCall m i call key) called
+  unfolding uncheckedCall begunOf
   call-turn Add room = starts Add refl room
   call-turn Remove room = starts Remove refl room
   call-turn Contains room = asks key fits idle
 
 module _ (m : Machine) (i code key : ℕ) where
-  pub call-is : callTests m i code ≡ passed → callOf m i code key ≡ left (bareCallOf m i (callNamed code) key) passed
+  pub call-is : callTests m i code ≡ passed → callOf m i code key ≡ left (uncheckedCall m i (callNamed code) key) passed
   unfolding callOf
   call-is passes = rw passes
 
   pub call-tests : isAccepted (quiet (callOf m i code key .answer)) ≡ true → callTests m i code ≡ passed
   unfolding callOf
-  call-tests e = call-passed (callTests m i code) m (bareCallOf m i (callNamed code) key) e
+  call-tests e = call-passed (callTests m i code) m (uncheckedCall m i (callNamed code) key) e
 
-  call-fits : (call : Call) → badTable (m .table) ≡ false → badTable (bareCallOf m i call key .table) ≡ false
-  unfolding bareCallOf
+  call-fits : (call : Call) → badTable (m .table) ≡ false → badTable (uncheckedCall m i call key .table) ≡ false
+  unfolding uncheckedCall
   call-fits call fits = same-fits (begunOf (m .state) (partyOf m i) call key .write) (m .table) ∙ fits
 
   call-happens : key < 4294967296 → isAccepted (quiet (callOf m i code key .answer)) ≡ true → Happens m (calls i code key)
   call-happens fits e =
       let passes : callTests m i code ≡ passed = call-tests e in
-      let is : callOf m i code key ≡ left (bareCallOf m i (callNamed code) key) passed = call-is passes in
+      let is : callOf m i code key ≡ left (uncheckedCall m i (callNamed code) key) passed = call-is passes in
       let form = past-form m (callAsks (m .state) (rowsIn (m .table)) i code) passes in
       let idle : Bool = isIdle (partyOf m i .place) in
       let full : Bool = noRow (partyOf m i .unpublished) (m .state .taken) (rowsIn (m .table)) (callNamed code) in

@@ -10,11 +10,11 @@ use lib.ListN.{length}
 use Rattle.logic.proofs.Tests.{and-left, and-right}
 use Rattle.list_rows.specs.Table.{nextAt}
 use Rattle.list_party.specs.declared.Place.the-variants.{Idle}
-use Rattle.list_unchecked.specs.Bare.{Machine, partyOf}
+use Rattle.list_unchecked.specs.Unchecked.{Machine, partyOf}
 use Rattle.list_form.specs.Form.{goodForm}
 use Rattle.list_form.proofs.Good.{Good, good}
 use Rattle.list.specs.Engine.{badTable, liveKeys}
-use Rattle.list.specs.Run.{Event, turnOf, run}
+use Rattle.list.specs.Run.{Event, eventOf, run}
 use Rattle.logic.specs.Sum.{sum}
 use Rattle.logic.specs.Keys.{extra}
 use Rattle.logic.proofs.Sum.{sum-zero, sum-one, sum-step}
@@ -45,9 +45,9 @@ pub record Start (orphan : ℕ → Bool) (parties : ℕ) (m : Machine) : Type 0 
   pub healthy : Healthy orphan parties m
   pub idles : (j : ℕ) → partyOf m j .place ≡ Idle
   pub none : (j : ℕ) → partyOf m j .unpublished ≡ false
-  pub moves : m .state .moves ≡ 0
-  pub won : m .state .won ≡ 0
-  pub lost : m .state .lost ≡ 0
+  pub moves : m .state .tallies .moves ≡ 0
+  pub won : m .state .tallies .won ≡ 0
+  pub lost : m .state .tallies .lost ≡ 0
 
 -- the books against the counts since a start at which so many rows were taken
 pub record Balanced (parties taken : ℕ) (m : Machine) (c : Counts) : Type 0 where
@@ -55,15 +55,15 @@ pub record Balanced (parties taken : ℕ) (m : Machine) (c : Counts) : Type 0 wh
   pub bound : c .lost + sum (staleOf m) parties + c .won ≤ parties * c .won
   pub paid : c .won + sum (owesOf m) parties ≤ c .ins + 2 * c .outs
   pub rows : m .state .taken ≡ taken + c .adds + c .marks + sum (heldOf m) parties
-  pub moves : m .state .moves ≡ c .moves
-  pub won : m .state .won ≡ c .won
-  pub lost : m .state .lost ≡ c .lost
+  pub moves : m .state .tallies .moves ≡ c .moves
+  pub won : m .state .tallies .won ≡ c .won
+  pub lost : m .state .tallies .lost ≡ c .lost
 
 -- ---- one event
 
 module _ (orphan : ℕ → Bool) (parties : ℕ) (m : Machine) (event : Event) (s : Healthy orphan parties m) (e : accepts m event ≡ true) where
   abbrev m′ : Machine
-  m′ = turnOf m event .memory
+  m′ = eventOf m event .memory
 
   h : Happens m event
   h = happens m event e
@@ -121,13 +121,13 @@ plus-plus : (a b c : Counts) → plus (plus a b) c ≡ plus a (plus b c)
 plus-plus a b c = simp add-assoc refl
 
 -- what every accepted event keeps holds after every accepted history
-pub along : (P : Machine → Type 0) → ((m : Machine) (event : Event) → P m → accepts m event ≡ true → P (turnOf m event .memory)) →
+pub along : (P : Machine → Type 0) → ((m : Machine) (event : Event) → P m → accepts m event ≡ true → P (eventOf m event .memory)) →
     (history : History) (m : Machine) → P m → Accepted m history → P (run m history)
 unfolding run acceptsAll
 along P keeps [] m start ok = start
 along P keeps (first ∷ rest) m start ok =
-    let this : accepts m first ≡ true = and-left (accepts m first) (acceptsAll (turnOf m first .memory) rest) ok in
-    along P keeps rest (turnOf m first .memory) (keeps m first start this) (and-right (accepts m first) (acceptsAll (turnOf m first .memory) rest) ok)
+    let this : accepts m first ≡ true = and-left (accepts m first) (acceptsAll (eventOf m first .memory) rest) ok in
+    along P keeps rest (eventOf m first .memory) (keeps m first start this) (and-right (accepts m first) (acceptsAll (eventOf m first .memory) rest) ok)
 
 module _ (orphan : ℕ → Bool) (parties : ℕ) where
   pub healthy-along : (history : History) (m : Machine) → Healthy orphan parties m → Accepted m history → Healthy orphan parties (run m history)
@@ -139,8 +139,8 @@ module _ (orphan : ℕ → Bool) (parties : ℕ) where
   unfolding run acceptsAll countsOf
   balanced-along taken [] m c s k ok = rw (plus-none c) k
   balanced-along taken (first ∷ rest) m c s k ok =
-      let this : accepts m first ≡ true = and-left (accepts m first) (acceptsAll (turnOf m first .memory) rest) ok in
-      let m′ = turnOf m first .memory in
+      let this : accepts m first ≡ true = and-left (accepts m first) (acceptsAll (eventOf m first .memory) rest) ok in
+      let m′ = eventOf m first .memory in
       rw (plus-plus c (eventCounts m first) (countsOf m′ rest)) at
       (balanced-along taken rest m′ (plus c (eventCounts m first)) (healthy-turn orphan parties m first s this) (balanced-turn orphan parties m first s this taken c k)
       (and-right (accepts m first) (acceptsAll m′ rest) ok))

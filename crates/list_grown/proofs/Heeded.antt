@@ -6,10 +6,10 @@ use mathlib.Core.Bool.{Bool, true, false, cond, _&&_, true≢false}
 use Prim.Native.Nat.{ℕ}
 use Rattle.refusal.specs.Answer.{Answer, accepted, refused, Tests}
 use Rattle.logic.proofs.Tests.{and-left, and-right, and-both}
-use Rattle.list_moves.specs.declared.Said.{Said}
-use Rattle.list_unchecked.specs.Bare.{Machine}
+use Rattle.calls.specs.declared.Said.{Said}
+use Rattle.list_unchecked.specs.Unchecked.{Machine}
 use Rattle.list.specs.Engine.{callOf, moveOf}
-use Rattle.list.specs.Run.{Event, calls, moves, quiet, turnOf, run}
+use Rattle.list.specs.Run.{Event, calls, moves, quiet, eventOf, run}
 use Rattle.list.proofs.Promises.{refused-call-leaves, refused-move-leaves}
 use Rattle.list_grown.specs.History.{keyFits, isAccepted, accepts, acceptsAll, heeded, keysFit}
 use Rattle.list_grown.specs.Demands.{Heeded}
@@ -30,7 +30,7 @@ second-fails : (a b : Bool) → a ≡ true → a && b ≡ false → b ≡ false
 second-fails true b h e = e
 second-fails false b h e = absurd (true≢false (sym h))
 
-stays : (m : Machine) (event : Event) → keyFits event ≡ true → accepts m event ≡ false → turnOf m event .memory ≡ m
+stays : (m : Machine) (event : Event) → keyFits event ≡ true → accepts m event ≡ false → eventOf m event .memory ≡ m
 stays m (calls i code key) fits e =
     call-stays m (callOf m i code key .answer) (callOf m i code key .memory) (λ number is. refused-call-leaves m i code key number is)
     (second-fails (keyFits (calls i code key)) (isAccepted (quiet (callOf m i code key .answer))) fits e)
@@ -42,7 +42,7 @@ all-heeded m [] fit = (refl, refl)
 all-heeded m (first ∷ rest) fit =
     let fits : keyFits first ≡ true = and-left (keyFits first) (keysFit rest) fit in
     let later : keysFit rest ≡ true = and-right (keyFits first) (keysFit rest) fit in
-    let m′ = turnOf m first .memory in
+    let m′ = eventOf m first .memory in
     by-test (λ b. accepts m first ≡ b → (run m′ rest ≡ run m (cond b (first ∷ heeded m′ rest) (heeded m rest))) × (acceptsAll m (cond b (first ∷ heeded m′ rest) (heeded m rest)) ≡ true))
     (accepts m first)
     (λ b is. let r = all-heeded m′ rest later in (r .0, and-both is (r .1)))

@@ -14,7 +14,7 @@ use Rattle.refusal.specs.Answer.{accepted, left, passed, refusing, leaving}
 use Rattle.logic.proofs.Tests.{and-left, and-right, and-both}
 use Rattle.list_rows.specs.Table.{Table, kindAt, keyAt, nextAt, isItem, isSplice}
 use Rattle.list_rows.specs.Order.{endRank, rank, rankAt}
-use Rattle.list_unchecked.specs.Bare.{Machine}
+use Rattle.list_unchecked.specs.Unchecked.{Machine}
 use Rattle.list_form.specs.Form.{goodForm}
 use Rattle.list_chain.specs.Chain.{behind, isLive, rises, withKey, liveFrom}
 use Rattle.list.specs.Engine.{badTable, chainRises, liveKeys, placesWith, listOf}

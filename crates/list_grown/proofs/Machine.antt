@@ -4,7 +4,7 @@ use Prim.Native.Nat.{ℕ, _+_}
 use mathlib.Core.Bool.{Bool}
 use Rattle.list_rows.specs.Table.{nextAt, backAt}
 use Rattle.list_rows.specs.Order.{rankAt}
-use Rattle.list_unchecked.specs.Bare.{Machine, partyOf}
+use Rattle.list_unchecked.specs.Unchecked.{Machine, partyOf}
 use Rattle.list_world.proofs.World.{World}
 use Rattle.list_world.proofs.Live.{Change, still, gain, lose}
 use Rattle.list_grown.specs.Deeds.{Deed, called, read, added, marked, cleaned, lost}

@@ -11,12 +11,12 @@ use lib.ListN.{length}
 use borrow.Author.Tests.{eqb-true}
 use Rattle.list_rows.specs.Table.{Table, kindAt, nextAt, isSplice}
 use Rattle.list_rows.specs.Order.{rank}
-use Rattle.list_party.specs.declared.Call.the-variants.{Remove}
+use Rattle.calls.specs.declared.Call.the-variants.{Remove}
 use Rattle.list_party.specs.declared.Place.{Place}
 use Rattle.list_party.specs.declared.Place.the-variants.{Idle, Walk, Clean, Back}
 use Rattle.list_party.specs.declared.Party.{Party}
 use Rattle.list_moves.specs.declared.Moved.{Moved}
-use Rattle.list_unchecked.specs.Bare.{Machine, partyOf, carried}
+use Rattle.list_unchecked.specs.Unchecked.{Machine, partyOf, carried}
 use Rattle.list_form.proofs.Good.{Rows}
 use Rattle.list_world.proofs.World.{World, Intact, Proper, Removed, Open, Reach, stop, step, succ}
 use Rattle.list_world.proofs.Extends.{Extends}

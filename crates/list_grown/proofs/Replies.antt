@@ -5,16 +5,16 @@ use mathlib.Core.Path.{_≡_, ap, _∙_}
 use mathlib.Core.Logic.{_≢_}
 use mathlib.Core.Bool.{Bool, false}
 use native.Mathlib.Omega.{arith}
-use Rattle.list_party.specs.declared.Call.the-variants.{Add, Remove, Contains}
+use Rattle.calls.specs.declared.Call.the-variants.{Add, Remove, Contains}
 use Rattle.list_party.specs.declared.Place.{Place}
 use Rattle.list_party.specs.declared.Place.the-variants.{Walk, AddSwap, Reread, Clean, Look}
 use Rattle.list_party.specs.declared.Party.{Party}
-use Rattle.list_moves.specs.declared.Said.{Said}
-use Rattle.list_moves.specs.declared.Said.the-variants.{Nothing, Yes, No}
+use Rattle.calls.specs.declared.Said.{Said}
+use Rattle.calls.specs.declared.Said.the-variants.{Nothing, Yes, No}
 use Rattle.list_moves.specs.declared.Moved.{Moved}
 use Rattle.list_moves.specs.Moves.{placeOf}
-use Rattle.list_unchecked.specs.Bare.{Machine, partyOf}
-use Rattle.list_form.specs.Form.{isIdle}
+use Rattle.list_unchecked.specs.Unchecked.{Machine, partyOf}
+use Rattle.list_party.specs.Party.{isIdle}
 use Rattle.list_world.proofs.World.{World, Removed, Open, Reach, Proper, Intact}
 use Rattle.list_world.proofs.Live.{LiveRank}
 use Rattle.list_world.proofs.Walk.{KeyRank}

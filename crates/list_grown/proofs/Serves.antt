@@ -6,17 +6,18 @@ use mathlib.Core.Logic.{_⊎_, inl, inr, ⊎-elim}
 use mathlib.Core.Bool.{Bool, true, false, true≢false}
 use native.Mathlib.Omega.{arith}
 use borrow.Author.Tests.{eq-eqb}
-use Rattle.list_party.specs.declared.Call.{Call}
-use Rattle.list_party.specs.declared.Call.the-variants.{Add, Remove, Contains}
+use Rattle.calls.specs.declared.Call.{Call}
+use Rattle.calls.specs.declared.Call.the-variants.{Add, Remove, Contains}
 use Rattle.list_party.specs.declared.Place.{Place}
 use Rattle.list_party.specs.declared.Place.the-variants.{Walk, Skip, AddSwap, Mark, Reread, Back, Look}
 use Rattle.list_party.specs.declared.Party.{Party}
 use Rattle.list_rows.specs.Table.{Table, nextAt}
-use Rattle.list_moves.specs.declared.Said.{Said}
-use Rattle.list_moves.specs.declared.Said.the-variants.{Nothing, Yes, No}
+use Rattle.calls.specs.declared.Said.{Said}
+use Rattle.calls.specs.declared.Said.the-variants.{Nothing, Yes, No}
 use Rattle.list_moves.specs.declared.Moved.{Moved}
-use Rattle.list_unchecked.specs.Bare.{Machine}
-use Rattle.list_form.specs.Form.{isRemove, isIdle}
+use Rattle.list_unchecked.specs.Unchecked.{Machine}
+use Rattle.calls.specs.Calls.{isRemove}
+use Rattle.list_party.specs.Party.{isIdle}
 use Rattle.list_world.proofs.World.{World}
 use Rattle.list_world.proofs.Live.{LiveRank}
 use Rattle.list_grown.specs.Deeds.{Deed, added, marked, deedAt}

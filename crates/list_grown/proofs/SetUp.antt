@@ -12,9 +12,10 @@ use Rattle.columns.specs.Column.{at}
 use Rattle.list_rows.specs.Table.{Table}
 use Rattle.list_rows.specs.Order.{rank}
 use Rattle.list_party.specs.Party.{blank}
-use Rattle.list_unchecked.specs.Bare.{Machine, machine, partyOf}
+use Rattle.list_unchecked.specs.Unchecked.{Machine, machine, partyOf}
 use Rattle.list_form.specs.Form.{rowsIn, goodForm}
-use Rattle.list_fresh.specs.Fresh.{freshTable, restingState}
+use Rattle.list_fresh.specs.Fresh.{freshTable}
+use Rattle.list_party.specs.State.{restingState}
 use Rattle.list.specs.Engine.{badTable, setUpTests, setUpOf}
 use Rattle.list.proofs.Laws.{repeat-at, past-set-up, table-fits}
 use Rattle.list.proofs.Kept.{set-up-is-good}

@@ -8,14 +8,15 @@ use mathlib.Core.Bool.{true, false, not}
 use lib.Dec.{eqb}
 use borrow.Author.Tests.{eqb-false, not-true}
 use Rattle.logic.proofs.Tests.{and-left, and-right}
-use Rattle.list_party.specs.declared.Call.{Call}
+use Rattle.calls.specs.declared.Call.{Call}
 use Rattle.list_party.specs.declared.Party.{Party}
-use Rattle.list_moves.specs.declared.Said.the-variants.{Nothing}
+use Rattle.calls.specs.declared.Said.the-variants.{Nothing}
 use Rattle.list_moves.specs.Moves.{placeOf}
-use Rattle.list_unchecked.specs.Bare.{Machine, partyOf, bareMoveOf}
-use Rattle.list_form.specs.Form.{isRemove, isIdle}
+use Rattle.list_unchecked.specs.Unchecked.{Machine, partyOf, uncheckedMove}
+use Rattle.calls.specs.Calls.{isRemove}
+use Rattle.list_party.specs.Party.{isIdle}
 use Rattle.list.specs.Engine.{liveKeys}
-use Rattle.list.specs.Run.{Event, calls, moves, turnOf, run}
+use Rattle.list.specs.Run.{Event, calls, moves, eventOf, run}
 use Rattle.list_world.proofs.Live.{LiveRank}
 use Rattle.logic.specs.Keys.{has}
 use Rattle.logic.proofs.Cases.{by-row, by-test}
@@ -48,7 +49,7 @@ module _ {P : Machine → Event → Type 0} {m : Machine} {first : Event} {rest 
   unfolding run
   at-once p = record { early = []; event = first; late = rest; split = refl; holds = p }
 
-  later : Sometime P (turnOf m first .memory) rest → Sometime P m (first ∷ rest)
+  later : Sometime P (eventOf m first .memory) rest → Sometime P m (first ∷ rest)
   unfolding run
   later s = record { early = first ∷ s .early; event = s .event; late = s .late; split = ap (λ l. first ∷ l) (s .split); holds = s .holds }
 
@@ -65,16 +66,16 @@ no-call i (calls j code key) rest quiet =
 no-call i (moves j) rest quiet = (by-row j i (λ e. rw e own) (λ n. other (λ e. n (sym e))), quiet)
 
 module _ (parties i : ℕ) (P : Machine → Event → Type 0) (Q : Machine → Type 0)
-    (keeps : (m : Machine) (event : Event) → Healthy none parties m → accepts m event ≡ true → NoCall i event → Q m → P m event ⊎ Q (turnOf m event .memory)) where
+    (keeps : (m : Machine) (event : Event) → Healthy none parties m → accepts m event ≡ true → NoCall i event → Q m → P m event ⊎ Q (eventOf m event .memory)) where
   -- Q lasts until an event of which P holds
   until : (history : History) (m : Machine) → Healthy none parties m → Accepted m history → callsNot i history ≡ true → Q m →
       Sometime P m history ⊎ Q (run m history)
   unfolding run acceptsAll
   until [] m s ok quiet q = inr q
   until (first ∷ rest) m s ok quiet q =
-      let this : accepts m first ≡ true = and-left (accepts m first) (acceptsAll (turnOf m first .memory) rest) ok in
+      let this : accepts m first ≡ true = and-left (accepts m first) (acceptsAll (eventOf m first .memory) rest) ok in
       let by = no-call i first rest quiet in
-      let m′ = turnOf m first .memory in
+      let m′ = eventOf m first .memory in
       ⊎-elim (λ p. inl (at-once p))
       (λ q′. ⊎-elim (λ l. inl (later l)) (λ e. inr e)
       (until rest m′ (healthy-turn none parties m first s this) (and-right (accepts m first) (acceptsAll m′ rest) ok) (by .1) q′))
@@ -87,13 +88,13 @@ module _ (parties i : ℕ) (m : Machine) (s : Healthy none parties m) (e : accep
   q = partyOf m i
 
   abbrev q′ : Party
-  q′ = partyOf (turnOf m (moves i) .memory) i
+  q′ = partyOf (eventOf m (moves i) .memory) i
 
   busy : isIdle (q .place) ≡ false
   busy = move-asked m i (move-tests m i e) .1
 
   moved-is : q′ ≡ placeOf (q .place) (m .table) q .party
-  unfolding bareMoveOf
+  unfolding uncheckedMove
   moved-is = rw (move-is m i (move-tests m i e)) (party-after m i (inside none parties m (moves i) s e) (placeOf (q .place) (m .table) q))
 
   it : Does (m .table) q (q .place) (placeOf (q .place) (m .table) q) (deedOf m (moves i))
@@ -127,7 +128,7 @@ module _ (i k : ℕ) where
 
   module _ (parties : ℕ) where
     serving-turn : (call : Call) (m : Machine) (event : Event) → Healthy none parties m → accepts m event ≡ true → NoCall i event → Serving call m →
-        Marks call m event ⊎ Serving call (turnOf m event .memory)
+        Marks call m event ⊎ Serving call (eventOf m event .memory)
     serving-turn call m event s e own r =
         ⊎-elim (λ d. inl (d .0, refl, d .1)) (λ r. inr r) (marks-or-serves (own-goes parties i m s e (r (busy parties i m s e))))
     serving-turn call m event s e (other n) r = inr (rw (turn-of none parties m event s e .others i n) r)
@@ -140,7 +141,7 @@ module _ (i k : ℕ) where
     -- a REMOVE that marks leaves the key absent, so that nothing is to be shown of it
     live-turn : (m : Machine) (event : Event) → Healthy none parties m → accepts m event ≡ true → NoCall i event → LiveRank (worldOf none m) (3 + k) →
         Following m →
-        Following (turnOf m event .memory)
+        Following (eventOf m event .memory)
     live-turn m event s e own live f still l =
         let t = f (busy parties i m s e) live in
         track-turns none m (s .inv) i (inside none parties m event s e) (happens m event e .turn) (turn-of none parties m event s e) i (λ is. own-silent parties i m s e k t still) t l
@@ -149,8 +150,8 @@ module _ (i k : ℕ) where
         track-turns none m (s .inv) (whose event) (inside none parties m event s e) (happens m event e .turn) turn i (λ is. absurd (n is)) (f (rw (turn .others i n) at still) live) l
 
     following-turn : (m : Machine) (event : Event) → Healthy none parties m → accepts m event ≡ true → NoCall i event → Following m →
-        Absent m event ⊎ Following (turnOf m event .memory)
-    following-turn m event s e by f = by-test (λ b. Absent m event ⊎ Following (turnOf m event .memory)) (has k (liveKeys m))
+        Absent m event ⊎ Following (eventOf m event .memory)
+    following-turn m event s e by f = by-test (λ b. Absent m event ⊎ Following (eventOf m event .memory)) (has k (liveKeys m))
         (λ is. inr (live-turn m event s e by (keys-live none m (s .inv) k is) f)) (λ is. inl is)
 
     pub following-since : (history : History) (m : Machine) → Healthy none parties m → Accepted m history → callsNot i history ≡ true → Following m →

@@ -12,12 +12,12 @@ use lib.Seq.{getD-set-same, getD-set-other}
 use Rattle.columns.specs.Column.{put}
 use Rattle.list_rows.specs.Table.{Table, nextAt, backAt, link, withRow}
 use Rattle.list_rows.specs.Order.{rank, rankAt}
-use Rattle.list_party.specs.declared.Call.the-variants.{Add, Remove}
+use Rattle.calls.specs.declared.Call.the-variants.{Add, Remove}
 use Rattle.list_party.specs.declared.Place.{Place}
 use Rattle.list_party.specs.declared.Party.{Party}
 use Rattle.list_party.specs.Party.{blank, idling, published, adding, marking, cleaning}
 use Rattle.list_moves.specs.declared.Moved.{Moved}
-use Rattle.list_unchecked.specs.Bare.{Machine, partyOf, carried}
+use Rattle.list_unchecked.specs.Unchecked.{Machine, partyOf, carried}
 use Rattle.list_form.proofs.Good.{Rows}
 use Rattle.list_world.proofs.World.{World, Intact, Proper, Removed, Open, succ}
 use Rattle.list_world.proofs.Writes.{FreshItem, Swing}

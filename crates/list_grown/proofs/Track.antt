@@ -8,17 +8,16 @@ use mathlib.Core.Bool.{Bool, true, false, true≢false}
 use native.Mathlib.Omega.{arith}
 use lib.ListN.{length, getD, set}
 use lib.Seq.{getD-set-same}
-use Rattle.list_party.specs.declared.Call.the-variants.{Remove, Contains}
+use Rattle.calls.specs.declared.Call.the-variants.{Remove, Contains}
 use Rattle.list_party.specs.declared.Place.{Place}
 use Rattle.list_party.specs.declared.Place.the-variants.{Idle, Walk, Mark, Reread, Look}
 use Rattle.list_party.specs.declared.Party.{Party}
-use Rattle.list_party.specs.Party.{blank, starting, looking}
-use Rattle.list_moves.specs.declared.Said.{Said}
-use Rattle.list_moves.specs.declared.Said.the-variants.{Nothing, Yes, No}
+use Rattle.list_party.specs.Party.{blank, starting, looking, isIdle}
+use Rattle.calls.specs.declared.Said.{Said}
+use Rattle.calls.specs.declared.Said.the-variants.{Nothing, Yes, No}
 use Rattle.list_moves.specs.declared.Moved.{Moved}
 use Rattle.list_moves.specs.Moves.{placeOf}
-use Rattle.list_unchecked.specs.Bare.{Machine, partyOf, carried}
-use Rattle.list_form.specs.Form.{isIdle}
+use Rattle.list_unchecked.specs.Unchecked.{Machine, partyOf, carried}
 use Rattle.list_world.proofs.World.{World, Open, Reach, Proper, Intact, succ}
 use Rattle.list_world.proofs.Live.{LiveRank, Change, gain, lose, Effect}
 use Rattle.list_world.proofs.WorldLaws.{row-succ, succ-open}

@@ -13,22 +13,24 @@ use lib.Seq.{set-out, getD-set-same, getD-set-other}
 use borrow.Author.Tests.{lt-ltb}
 use Rattle.columns.specs.Column.{at, put}
 use Rattle.list_rows.specs.declared.Write.{Write}
-use Rattle.list_rows.specs.declared.Write.the-variants.{Keep, Link, Splice}
+use Rattle.list_rows.specs.declared.Write.the-variants.{Untouched, Link, Splice}
 use Rattle.list_rows.specs.Table.{Table, keyAt, nextAt, withRow}
 use Rattle.list_rows.specs.Writes.{written}
 use Rattle.list_rows.specs.Order.{rank, rankAt}
-use Rattle.list_party.specs.declared.Call.{Call}
-use Rattle.list_party.specs.declared.Call.the-variants.{Add, Remove, Contains}
+use Rattle.calls.specs.declared.Call.{Call}
+use Rattle.calls.specs.declared.Call.the-variants.{Add, Remove, Contains}
 use Rattle.list_party.specs.declared.Place.the-variants.{Idle, Walk}
 use Rattle.list_party.specs.declared.Party.{Party}
 use Rattle.list_party.specs.declared.State.{State}
-use Rattle.list_party.specs.declared.Access.{Access}
-use Rattle.list_party.specs.declared.Access.the-variants.{None, Read, Won, Lost}
-use Rattle.list_party.specs.Party.{blank, starting, looking, withParty, withTaken, tallied}
+use Rattle.calls.specs.declared.Access.{Access}
+use Rattle.calls.specs.declared.Access.the-variants.{None, Read, Won, Lost}
+use Rattle.list_party.specs.Party.{blank, starting, looking, isIdle}
+use Rattle.list_party.specs.State.{withParty, withTaken, tallied}
 use Rattle.list_moves.specs.declared.Moved.{Moved}
 use Rattle.list_moves.specs.Moves.{placeOf}
-use Rattle.list_unchecked.specs.Bare.{Machine, machine, partyOf, carried}
-use Rattle.list_form.specs.Form.{rowsIn, isIdle, isContains}
+use Rattle.list_unchecked.specs.Unchecked.{Machine, machine, partyOf, carried}
+use Rattle.list_form.specs.Form.{rowsIn}
+use Rattle.calls.specs.Calls.{isContains}
 use Rattle.list_form.proofs.Good.{Rows}
 use Rattle.logic.specs.Sum.{oneIf}
 use Rattle.list_world.proofs.World.{World}
@@ -89,9 +91,9 @@ pub record Turned (orphan : ℕ → Bool) (m : Machine) (i : ℕ) (m′ : Machin
   pub small : KeysSmall (m .table) → KeysSmall (m′ .table)
   pub sixteen : length (m′ .state .parties) ≡ length (m .state .parties)
   pub count : m′ .state .count ≡ m .state .count
-  pub made : m′ .state .moves ≡ m .state .moves + deedCounts deed .moves
-  pub won : m′ .state .won ≡ m .state .won + deedCounts deed .won
-  pub lost : m′ .state .lost ≡ m .state .lost + deedCounts deed .lost
+  pub made : m′ .state .tallies .moves ≡ m .state .tallies .moves + deedCounts deed .moves
+  pub won : m′ .state .tallies .won ≡ m .state .tallies .won + deedCounts deed .won
+  pub lost : m′ .state .tallies .lost ≡ m .state .tallies .lost + deedCounts deed .lost
 
 -- ---- the keys
 
@@ -101,7 +103,7 @@ put-small column row key fits old x = dite (decLt row (length column))
     (λ (l : row < length column → ⊥). rw (set-out column row key (omega arith)) (old x))
 
 plain-small : (write : Write) (t : Table) → NoItem write → KeysSmall t → KeysSmall (written write t)
-plain-small Keep t plain old = old
+plain-small Untouched t plain old = old
 plain-small (Link row to) t plain old = old
 plain-small (Splice row to from) t plain old = put-small (t .key) row 0 (omega arith) old
 
@@ -132,30 +134,30 @@ party-after m i h moved =
     rw (same-parties (moved .access) (withParty (m .state) i (moved .party))) (getD-set-same (m .state .parties) i (moved .party) blank h)
 
 -- below their limit the tallies count what the deed counts
-module _ (st : State) (below-moves : st .moves < 4294967295) (below-won : st .won < 4294967295) (below-lost : st .lost < 4294967295) where
-  deed-moves : (deed : Deed) → tallied (accessOf deed) st .moves ≡ st .moves + deedCounts deed .moves
+module _ (st : State) (below-moves : st .tallies .moves < 4294967295) (below-won : st .tallies .won < 4294967295) (below-lost : st .tallies .lost < 4294967295) where
+  deed-moves : (deed : Deed) → tallied (accessOf deed) st .tallies .moves ≡ st .tallies .moves + deedCounts deed .moves
   deed-moves called = omega arith
-  deed-moves read = rw (lt-ltb (st .moves) 4294967295 below-moves)
-  deed-moves (added key) = rw (lt-ltb (st .moves) 4294967295 below-moves)
-  deed-moves (marked key) = rw (lt-ltb (st .moves) 4294967295 below-moves)
-  deed-moves cleaned = rw (lt-ltb (st .moves) 4294967295 below-moves)
-  deed-moves lost = rw (lt-ltb (st .moves) 4294967295 below-moves)
+  deed-moves read = rw (lt-ltb (st .tallies .moves) 4294967295 below-moves)
+  deed-moves (added key) = rw (lt-ltb (st .tallies .moves) 4294967295 below-moves)
+  deed-moves (marked key) = rw (lt-ltb (st .tallies .moves) 4294967295 below-moves)
+  deed-moves cleaned = rw (lt-ltb (st .tallies .moves) 4294967295 below-moves)
+  deed-moves lost = rw (lt-ltb (st .tallies .moves) 4294967295 below-moves)
 
-  deed-won : (deed : Deed) → tallied (accessOf deed) st .won ≡ st .won + deedCounts deed .won
+  deed-won : (deed : Deed) → tallied (accessOf deed) st .tallies .won ≡ st .tallies .won + deedCounts deed .won
   deed-won called = omega arith
   deed-won read = omega arith
-  deed-won (added key) = rw (lt-ltb (st .won) 4294967295 below-won)
-  deed-won (marked key) = rw (lt-ltb (st .won) 4294967295 below-won)
-  deed-won cleaned = rw (lt-ltb (st .won) 4294967295 below-won)
+  deed-won (added key) = rw (lt-ltb (st .tallies .won) 4294967295 below-won)
+  deed-won (marked key) = rw (lt-ltb (st .tallies .won) 4294967295 below-won)
+  deed-won cleaned = rw (lt-ltb (st .tallies .won) 4294967295 below-won)
   deed-won lost = omega arith
 
-  deed-lost : (deed : Deed) → tallied (accessOf deed) st .lost ≡ st .lost + deedCounts deed .lost
+  deed-lost : (deed : Deed) → tallied (accessOf deed) st .tallies .lost ≡ st .tallies .lost + deedCounts deed .lost
   deed-lost called = omega arith
   deed-lost read = omega arith
   deed-lost (added key) = omega arith
   deed-lost (marked key) = omega arith
   deed-lost cleaned = omega arith
-  deed-lost lost = rw (lt-ltb (st .lost) 4294967295 below-lost)
+  deed-lost lost = rw (lt-ltb (st .tallies .lost) 4294967295 below-lost)
 
 -- ---- every turn
 
@@ -264,7 +266,7 @@ module _ (orphan : ℕ → Bool) (m : Machine) (v : Inv (viewOf orphan m)) (z : 
 
   -- ---- a move
 
-  moved-on : (moved : Moved) (deed : Deed) → m .state .moves < 4294967295 → m .state .won < 4294967295 → m .state .lost < 4294967295 →
+  moved-on : (moved : Moved) (deed : Deed) → m .state .tallies .moves < 4294967295 → m .state .tallies .won < 4294967295 → m .state .tallies .lost < 4294967295 →
       Booked w (m .table) (partyOf m i) (partyOf m i .place) moved deed →
       Steady (viewOf orphan m) (viewOf orphan (carried m i moved .after)) (changeOf deed (partyOf m i .own)) → Turned orphan m i (carried m i moved .after) deed
   moved-on moved deed a b c books steady =
@@ -286,7 +288,7 @@ module _ (orphan : ℕ → Bool) (m : Machine) (v : Inv (viewOf orphan m)) (z : 
         lost = rw (books .access) (deed-lost st a b c deed);
       }
 
-  pub turned : {m′ : Machine} {deed : Deed} → m .state .moves < 4294967295 → m .state .won < 4294967295 → m .state .lost < 4294967295 →
+  pub turned : {m′ : Machine} {deed : Deed} → m .state .tallies .moves < 4294967295 → m .state .tallies .won < 4294967295 → m .state .tallies .lost < 4294967295 →
       Turn m i m′ deed → Turned orphan m i m′ deed
   turned a b c (moves busy) =
       let it = does (m .table) (partyOf m i) w (partyOf m i .place) busy (v .holds i) in

@@ -6,11 +6,11 @@ use Prim.Native.Nat.{ℕ}
 use lib.Dec.{eqb}
 use Rattle.refusal.specs.Answer.{accepted}
 use Rattle.list_rows.specs.Table.{Table}
-use Rattle.list_moves.specs.declared.Said.{Said}
-use Rattle.list_moves.specs.declared.Said.the-variants.{Yes, No}
-use Rattle.list_unchecked.specs.Bare.{Machine}
+use Rattle.calls.specs.declared.Said.{Said}
+use Rattle.calls.specs.declared.Said.the-variants.{Yes, No}
+use Rattle.list_unchecked.specs.Unchecked.{Machine}
 use Rattle.list.specs.Engine.{liveKeys}
-use Rattle.list.specs.Run.{Event, calls, moves, turnOf, run}
+use Rattle.list.specs.Run.{Event, calls, moves, eventOf, run}
 use Rattle.logic.specs.Keys.{has}
 use Rattle.list_grown.specs.History.{History, Grows, grown}
 use Rattle.list_grown.specs.Deeds.{added, marked, deedOf}
@@ -46,7 +46,7 @@ found a = grown (a .table) (a .parties) (a .before ++ call a ∷ a .since)
 pub record Answered (a : Asked) (said : Said) : Type 0 where
   pub grows : Grows (a .table) (a .parties) (a .before ++ call a ∷ a .since)
   pub waits : callsNot (a .party) (a .since) ≡ true
-  pub answer : turnOf (found a) (moves (a .party)) .answer ≡ accepted said
+  pub answer : eventOf (found a) (moves (a .party)) .answer ≡ accepted said
 
 -- the key is live where the answer is given
 abbrev pub Present : Asked → Type 0

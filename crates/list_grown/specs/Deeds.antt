@@ -7,9 +7,9 @@ use Rattle.list_rows.specs.Table.{Table, nextAt}
 use Rattle.list_party.specs.declared.Place.{Place}
 use Rattle.list_party.specs.declared.Place.the-variants.{Idle, Walk, Skip, AddSwap, Mark, Reread, Clean, Back, Look}
 use Rattle.list_party.specs.declared.Party.{Party}
-use Rattle.list_unchecked.specs.Bare.{Machine, partyOf}
+use Rattle.list_unchecked.specs.Unchecked.{Machine, partyOf}
 use Rattle.list.specs.Engine.{liveKeys}
-use Rattle.list.specs.Run.{Event, calls, moves, turnOf}
+use Rattle.list.specs.Run.{Event, calls, moves, eventOf}
 use Rattle.logic.specs.Keys.{extra}
 use Rattle.list_grown.specs.History.{History}
 use Rattle.list_grown.specs.Counts.{Counts, tally, withKeys, plus}
@@ -55,8 +55,8 @@ deedCounts lost = tally 0 1 0 1 0 0
 -- a key is brought in if it is live after the event and was not before, and taken out if it was and is not any more
 abbrev pub eventCounts : Machine → Event → Counts
 eventCounts m event =
-    withKeys (extra (liveKeys (turnOf m event .memory)) (liveKeys m)) (extra (liveKeys m) (liveKeys (turnOf m event .memory))) (deedCounts (deedOf m event))
+    withKeys (extra (liveKeys (eventOf m event .memory)) (liveKeys m)) (extra (liveKeys m) (liveKeys (eventOf m event .memory))) (deedCounts (deedOf m event))
 
 unfoldable pub countsOf : Machine → History → Counts
 countsOf m [] = tally 0 0 0 0 0 0
-countsOf m (first ∷ rest) = plus (eventCounts m first) (countsOf (turnOf m first .memory) rest)
+countsOf m (first ∷ rest) = plus (eventCounts m first) (countsOf (eventOf m first .memory) rest)

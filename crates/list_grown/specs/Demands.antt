@@ -9,14 +9,13 @@ use lib.ListN.{length}
 use Rattle.refusal.specs.Answer.{accepted, left, passed, refusing, leaving}
 use Rattle.list_rows.specs.Table.{Table, keyAt, backAt, isSplice}
 use Rattle.list_party.specs.declared.Party.{Party}
-use Rattle.list_unchecked.specs.Bare.{Machine, partyOf}
+use Rattle.list_unchecked.specs.Unchecked.{Machine, partyOf}
 use Rattle.list_form.specs.Form.{goodForm}
 use Rattle.list_chain.specs.Chain.{isLive}
-use Rattle.logic.specs.Sum.{oneIf}
+use Rattle.logic.specs.Sum.{oneIf, sum}
 use Rattle.list.specs.Engine.{badTable, liveKeys, placesWith, listOf}
-use Rattle.list.specs.Run.{Event, turnOf, run}
+use Rattle.list.specs.Run.{Event, eventOf, run}
 use Rattle.logic.specs.Keys.{Rising, has, placed, without}
-use Rattle.logic.specs.Sum.{sum}
 use Rattle.list_grown.specs.History.{History, accepts, Accepted, heeded, keysFit, start, Grows, grown}
 use Rattle.list_grown.specs.Deeds.{Deed, called, read, added, marked, cleaned, lost, deedOf, countsOf}
 
@@ -74,7 +73,7 @@ Changes lost before after = after ≡ before
 abbrev pub Demand2 : Type 0
 Demand2 = (t : Table) (parties : ℕ) (history : History) (event : Event) → Grows t parties history →
     let m = grown t parties history in
-    accepts m event ≡ true → Changes (deedOf m event) (liveKeys m) (liveKeys (turnOf m event .memory))
+    accepts m event ≡ true → Changes (deedOf m event) (liveKeys m) (liveKeys (eventOf m event .memory))
 
 -- ---- the third demand
 
@@ -85,9 +84,9 @@ Demand3 = (t : Table) (parties : ℕ) (history : History) → Grows t parties hi
     let counts = countsOf (start t parties) history in
     (counts .lost ≤ (parties - 1) * counts .won)
     × (counts .won ≤ counts .ins + 2 * counts .outs)
-    × (m .state .moves ≡ counts .moves)
-    × (m .state .won ≡ counts .won)
-    × (m .state .lost ≡ counts .lost)
+    × (m .state .tallies .moves ≡ counts .moves)
+    × (m .state .tallies .won ≡ counts .won)
+    × (m .state .tallies .lost ≡ counts .lost)
 
 -- ---- the rows
 

@@ -6,10 +6,10 @@ use Prim.Native.Nat.{ℕ}
 use lib.Dec.{ltb}
 use Rattle.refusal.specs.Answer.{Answer, accepted, refused, passed}
 use Rattle.list_rows.specs.Table.{Table}
-use Rattle.list_moves.specs.declared.Said.{Said}
-use Rattle.list_unchecked.specs.Bare.{Machine}
+use Rattle.calls.specs.declared.Said.{Said}
+use Rattle.list_unchecked.specs.Unchecked.{Machine}
 use Rattle.list.specs.Engine.{setUpOf}
-use Rattle.list.specs.Run.{Event, calls, moves, turnOf, run}
+use Rattle.list.specs.Run.{Event, calls, moves, eventOf, run}
 
 -- the first event comes first
 abbrev pub History : Type 0
@@ -26,12 +26,12 @@ isAccepted (refused number) = false
 
 -- the key fits, and the engine does not refuse the event
 abbrev pub accepts : Machine → Event → Bool
-accepts m event = keyFits event && isAccepted (turnOf m event .answer)
+accepts m event = keyFits event && isAccepted (eventOf m event .answer)
 
 -- it accepts every event of a history
 unfoldable pub acceptsAll : Machine → History → Bool
 acceptsAll m [] = true
-acceptsAll m (first ∷ rest) = accepts m first && acceptsAll (turnOf m first .memory) rest
+acceptsAll m (first ∷ rest) = accepts m first && acceptsAll (eventOf m first .memory) rest
 
 abbrev pub Accepted : Machine → History → Type 0
 Accepted m history = acceptsAll m history ≡ true
@@ -39,7 +39,7 @@ Accepted m history = acceptsAll m history ≡ true
 -- the events of a history that are accepted; a refused one is passed over
 unfoldable pub heeded : Machine → History → History
 heeded m [] = []
-heeded m (first ∷ rest) = cond (accepts m first) (first ∷ heeded (turnOf m first .memory) rest) (heeded m rest)
+heeded m (first ∷ rest) = cond (accepts m first) (first ∷ heeded (eventOf m first .memory) rest) (heeded m rest)
 
 unfoldable pub keysFit : History → Bool
 keysFit [] = true

@@ -3,7 +3,7 @@ use mathlib.Core.Path.{_≡_}
 use Prim.Native.Nat.{ℕ, _+_, _-_, _*_}
 use mathlib.Core.List.{List, [], _∷_}
 use mathlib.Core.Bool.{true, false}
-use Rattle.list_moves.specs.declared.Said.the-variants.{No}
+use Rattle.calls.specs.declared.Said.the-variants.{No}
 use Rattle.list_rows.specs.Table.{nextAt}
 use Rattle.list.specs.Engine.{liveKeys, chainRises}
 use Rattle.list.specs.Run.{calls, moves}

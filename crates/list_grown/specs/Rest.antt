@@ -3,8 +3,8 @@ use mathlib.Core.Path.{_≡_}
 use mathlib.Core.Bool.{true, false}
 use Prim.Native.Nat.{ℕ, zero, suc, _<_}
 use Rattle.list_rows.specs.Table.{Table, nextAt, isSplice}
-use Rattle.list_unchecked.specs.Bare.{partyOf}
-use Rattle.list_form.specs.Form.{isIdle}
+use Rattle.list_unchecked.specs.Unchecked.{partyOf}
+use Rattle.list_party.specs.Party.{isIdle}
 use Rattle.list_chain.specs.Chain.{behind}
 use Rattle.list_grown.specs.History.{History, Grows, grown}
 

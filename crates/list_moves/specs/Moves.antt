@@ -1,134 +1,168 @@
--- The moves, one definition for each place (document 01, "The moves"). What p, n, c, s, r and own are: `Party` in party/src/lib.rt.
+-- The moves, one definition for each place (document 01, "The moves"). What p, n, c, s, r and own are: list_party/src/lib.rt.
 use mathlib.Core.Bool.{not, cond, _&&_, _||_}
 use Prim.Native.Nat.{ℕ}
 use lib.Dec.{eqb}
-use Rattle.list_party.specs.declared.Call.{Call}
-use Rattle.list_party.specs.declared.Call.the-variants.{Add, Remove, Contains}
+use Rattle.calls.specs.declared.Call.{Call}
+use Rattle.calls.specs.declared.Call.the-variants.{Add, Remove, Contains}
+use Rattle.calls.specs.declared.Said.{Said}
+use Rattle.calls.specs.declared.Said.the-variants.{Nothing, Yes, No}
+use Rattle.calls.specs.declared.Access.the-variants.{None, Read, Won, Lost}
+use Rattle.list_rows.specs.declared.Write.{Write}
+use Rattle.list_rows.specs.declared.Write.the-variants.{Untouched, Link, Splice}
+use Rattle.list_rows.specs.Table.{Table, nextAt, backAt, isSplice}
+use Rattle.list_rows.specs.Order.{belowKey, equalsKey}
 use Rattle.list_party.specs.declared.Place.{Place}
 use Rattle.list_party.specs.declared.Place.the-variants.{Idle, Walk, Skip, AddSwap, Mark, Reread, Clean, Back, Look}
 use Rattle.list_party.specs.declared.Party.{Party}
-use Rattle.list_party.specs.declared.Access.the-variants.{None, Read, Won, Lost}
-use Rattle.list_rows.specs.declared.Write.{Write}
-use Rattle.list_rows.specs.declared.Write.the-variants.{Keep, Link, Splice}
-use Rattle.list_moves.specs.declared.Said.{Said}
-use Rattle.list_moves.specs.declared.Said.the-variants.{Nothing, Yes, No}
+use Rattle.list_party.specs.Party.{idling, published, goesTo}
 use Rattle.list_moves.specs.declared.Moved.{Moved}
-use Rattle.list_rows.specs.Table.{Table, nextAt, backAt, isSplice}
-use Rattle.list_rows.specs.Order.{belowKey, equalsKey}
-use Rattle.list_party.specs.Party.{idling, published, walking, skipping, adding, marking, rereading, cleaning, backing, looking}
+use Rattle.list_moves.specs.declared.Swap.{Swap}
 
 -- ---- what a move comes to: the party after it, what is said, what came of the access, what is written
 
--- a read, after which the call goes on; what a read writes is the own row, to which nobody is led yet
-abbrev pub reads : Party → Write → Moved
-reads party write = record { party = party; said = Nothing; access = Read; write = write }
+-- a read, and the call goes on
+abbrev pub goesOn : Party → Moved
+goesOn party = record { party = party; said = Nothing; access = Read; write = Untouched }
+
+-- a read, and the own row, to which nobody is led yet, is made ready for a swap
+abbrev pub readies : Party → Write → Moved
+readies party write = record { party = party; said = Nothing; access = Read; write = write }
 
 -- a read that gives the answer: the party rests, with the row that it has not put into the list
 abbrev pub answers : Party → Said → Moved
-answers party said = record { party = idling party; said = said; access = Read; write = Keep }
+answers party said = record { party = idling party; said = said; access = Read; write = Untouched }
 
--- a won swap: next of the row becomes the other row
-abbrev pub wins : Party → Said → (row to : ℕ) → Moved
-wins party said row to = record { party = party; said = said; access = Won; write = Link row to }
+-- a swap of a row's next is won exactly if the next still holds the expected row; a lost one changes no row
+abbrev pub swapOf : Table → Swap → (won : Party) → Said → (lost : Party) → Moved
+swapOf t swap won said lost =
+    cond (eqb (nextAt t (swap .row)) (swap .from))
+    (record { party = won; said = said; access = Won; write = Link (swap .row) (swap .to) })
+    (record { party = lost; said = Nothing; access = Lost; write = Untouched })
 
--- a lost swap: nothing is written
-abbrev pub loses : Party → Moved
-loses party = record { party = party; said = Nothing; access = Lost; write = Keep }
-
--- ---- the places
-
--- the own row is led to where the walk has landed, ready for its swap
+-- to prepare: next of own := c; go to ADDSWAP
 unfoldable pub prepareOf : Party → Call → ℕ → Moved
-prepareOf q call k = reads (adding q call k (q .p) (q .n)) (Link (q .own) (q .c))
+prepareOf q call key =
+    readies (goesTo q (AddSwap call key) (record { p = q .p; n = q .n; c = 0; s = 0; r = 0 })) (Link (q .own) (q .c))
 
 module _ (t : Table) (q : Party) where
-  -- the next of c, which a walk calls s
+  -- s := next of c
   abbrev s-of-c : ℕ
   s-of-c = nextAt t (q .c)
 
-  -- WALK, c below the key. Past a splice c goes on alone; else p and n go with it.
+  -- ---- WALK
+
+  -- c is below the key. When s is a splice, c := its next; else p := c, n := s, c := s. Stay.
   unfoldable pub onwardOf : Call → ℕ → Moved
-  onwardOf call k =
-      cond (isSplice t s-of-c) (reads (walking q call k (q .p) (q .n) (nextAt t s-of-c)) Keep)
-      (reads (walking q call k (q .c) s-of-c s-of-c) Keep)
+  onwardOf call key = let s = s-of-c in
+      cond (isSplice t s)
+      (goesOn (goesTo q (Walk call key) (record { p = q .p; n = q .n; c = nextAt t s; s = 0; r = q .r })))
+      (goesOn (goesTo q (Walk call key) (record { p = q .c; n = s; c = s; s = 0; r = q .r })))
 
-  -- WALK, an ADD has landed. A removed row is passed by SKIP; the key itself means no; else the own row is made ready.
+  -- An ADD has landed. When s is a splice, c := its next, go to SKIP; else if c equals the key, answer no; else prepare.
   unfoldable pub landedAddOf : ℕ → Moved
-  landedAddOf k =
-      cond (isSplice t s-of-c) (reads (skipping q Add k (q .p) (q .n) (nextAt t s-of-c)) Keep)
-      (cond (equalsKey t (q .c) k) (answers q No)
-      (prepareOf q Add k))
+  landedAddOf key = let s = s-of-c in
+      cond (isSplice t s)
+      (goesOn (goesTo q (Skip Add key) (record { p = q .p; n = q .n; c = nextAt t s; s = 0; r = 0 })))
+      (cond (equalsKey t (q .c) key)
+      (answers q No)
+      (prepareOf q Add key))
 
-  -- WALK, a REMOVE has landed; a published own is its mark. Marked: where its splice is gone somebody has cleaned up, and
-  -- the answer is yes. Not yet marked: another key or a removed row means no, else own becomes a splice that leads on to s and back to p.
+  -- A REMOVE that is not yet marked has landed. If c differs from the key or s is a splice, answer no;
+  -- else own becomes a splice with key 0, next s and back p; go to MARK.
+  unfoldable pub landedUnmarkedOf : ℕ → Moved
+  landedUnmarkedOf key = let s = s-of-c in
+      cond (not (equalsKey t (q .c) key) || isSplice t s)
+      (answers q No)
+      (readies (goesTo q (Mark Remove key) (record { p = q .p; n = q .n; c = q .c; s = s; r = 0 })) (Splice (q .own) s (q .p)))
+
+  -- A REMOVE that is already marked has landed. If s is not own, somebody has cleaned up: answer yes; else go to CLEAN.
+  unfoldable pub landedMarkedOf : ℕ → Moved
+  landedMarkedOf key =
+      cond (not (eqb s-of-c (q .own)))
+      (answers q Yes)
+      (goesOn (goesTo q (Clean Remove key) (record { p = q .p; n = q .n; c = 0; s = 0; r = q .r })))
+
+  -- a REMOVE is marked exactly if its own is published
   unfoldable pub landedRemoveOf : ℕ → Moved
-  landedRemoveOf k =
-      cond (not (q .unpublished))
-      (cond (eqb s-of-c (q .own)) (reads (cleaning q Remove k (q .p) (q .n) (q .r)) Keep) (answers q Yes))
-      (cond (not (equalsKey t (q .c) k) || isSplice t s-of-c) (answers q No)
-      (reads (marking q Remove k (q .p) (q .n) (q .c) s-of-c) (Splice (q .own) s-of-c (q .p))))
+  landedRemoveOf key = cond (q .unpublished) (landedUnmarkedOf key) (landedMarkedOf key)
 
-  -- a CONTAINS has landed: the key is there if c has it and nobody has removed c
+  -- A CONTAINS has landed. Answer yes exactly if c equals the key and s is not a splice.
   unfoldable pub landedContainsOf : ℕ → Moved
-  landedContainsOf k = cond (equalsKey t (q .c) k && not (isSplice t s-of-c)) (answers q Yes) (answers q No)
+  landedContainsOf key = cond (equalsKey t (q .c) key && not (isSplice t s-of-c)) (answers q Yes) (answers q No)
 
   -- no CONTAINS comes to WALK; if a state outside good form says so, it lands as at LOOK
   abbrev pub landedOf : Call → ℕ → Moved
-  landedOf Add k = landedAddOf k
-  landedOf Remove k = landedRemoveOf k
-  landedOf Contains k = landedContainsOf k
+  landedOf Add key = landedAddOf key
+  landedOf Remove key = landedRemoveOf key
+  landedOf Contains key = landedContainsOf key
 
-  -- WALK: one row on, until a row is found that is not below the key
+  -- while c is below the key the walk goes on; otherwise c has landed
   unfoldable pub walkOf : Call → ℕ → Moved
-  walkOf call k = cond (belowKey t (q .c) k) (onwardOf call k) (landedOf call k)
+  walkOf call key = cond (belowKey t (q .c) key) (onwardOf call key) (landedOf call key)
 
-  -- SKIP: past every removed row, without a look at the key
+  -- ---- the other places
+
+  -- SKIP: when s is a splice, c := its next, stay; else prepare. The key is not looked at again.
   unfoldable pub skipOf : Call → ℕ → Moved
-  skipOf call k =
-      cond (isSplice t s-of-c) (reads (skipping q call k (q .p) (q .n) (nextAt t s-of-c)) Keep) (prepareOf q call k)
+  skipOf call key = let s = s-of-c in
+      cond (isSplice t s)
+      (goesOn (goesTo q (Skip call key) (record { p = q .p; n = q .n; c = nextAt t s; s = 0; r = 0 })))
+      (prepareOf q call key)
 
-  -- ADDSWAP: the own row goes in behind p if n is still what stands there
+  -- ADDSWAP: next of p from n to own. Won: own is published, answer yes. Lost: go to BACK.
   unfoldable pub addSwapOf : Call → ℕ → Moved
-  addSwapOf call k =
-      cond (eqb (nextAt t (q .p)) (q .n)) (wins (idling (published q)) Yes (q .p) (q .own)) (loses (backing q call k (q .p)))
+  addSwapOf call key =
+      swapOf t (record { row = q .p; from = q .n; to = q .own })
+      (idling (published q)) Yes
+      (goesTo q (Back call key) (record { p = q .p; n = 0; c = 0; s = 0; r = q .r }))
 
-  -- MARK: the own splice goes in behind c if s is still what stands there, and c is removed; r is what stood behind it
+  -- MARK: next of c from s to own. Won: own is published, r := s, go to CLEAN. Lost: go to REREAD.
   unfoldable pub markOf : Call → ℕ → Moved
-  markOf call k =
-      cond (eqb s-of-c (q .s)) (wins (cleaning (published q) call k (q .p) (q .n) (q .s)) Nothing (q .c) (q .own))
-      (loses (rereading q call k (q .p) (q .n) (q .c)))
+  markOf call key =
+      swapOf t (record { row = q .c; from = q .s; to = q .own })
+      (goesTo (published q) (Clean call key) (record { p = q .p; n = q .n; c = 0; s = 0; r = q .s })) Nothing
+      (goesTo q (Reread call key) (record { p = q .p; n = q .n; c = q .c; s = 0; r = 0 }))
 
-  -- REREAD: a splice means that another party has removed the row; else the own splice is led to the new next
+  -- REREAD: when s is a splice, another party has removed the row: answer no; else next of own := s, go to MARK.
   unfoldable pub rereadOf : Call → ℕ → Moved
-  rereadOf call k =
-      cond (isSplice t s-of-c) (answers q No) (reads (marking q call k (q .p) (q .n) (q .c) s-of-c) (Link (q .own) s-of-c))
+  rereadOf call key = let s = s-of-c in
+      cond (isSplice t s)
+      (answers q No)
+      (readies (goesTo q (Mark call key) (record { p = q .p; n = q .n; c = q .c; s = s; r = 0 })) (Link (q .own) s))
 
-  -- CLEAN: p is led past the removed rows to r if n is still what stands behind p
+  -- CLEAN: next of p from n to r. Won: answer yes. Lost: go to BACK.
   unfoldable pub cleanOf : Call → ℕ → Moved
-  cleanOf call k =
-      cond (eqb (nextAt t (q .p)) (q .n)) (wins (idling q) Yes (q .p) (q .r)) (loses (backing q call k (q .p)))
+  cleanOf call key =
+      swapOf t (record { row = q .p; from = q .n; to = q .r })
+      (idling q) Yes
+      (goesTo q (Back call key) (record { p = q .p; n = 0; c = 0; s = 0; r = q .r }))
 
-  -- BACK: from a removed p to the row that its splice names; from one that is not removed the walk starts again
+  -- BACK: n := next of p. When n is a splice, p := its back, stay; else c := n, go to WALK.
   unfoldable pub backOf : Call → ℕ → Moved
-  backOf call k =
-      cond (isSplice t (nextAt t (q .p))) (reads (backing q call k (backAt t (nextAt t (q .p)))) Keep)
-      (reads (walking q call k (q .p) (nextAt t (q .p)) (nextAt t (q .p))) Keep)
+  backOf call key = let n = nextAt t (q .p) in
+      cond (isSplice t n)
+      (goesOn (goesTo q (Back call key) (record { p = backAt t n; n = 0; c = 0; s = 0; r = q .r })))
+      (goesOn (goesTo q (Walk call key) (record { p = q .p; n = n; c = n; s = 0; r = q .r })))
 
-  -- LOOK: one row on, through splices, until a row is found that is not below the key
+  -- LOOK below the key: c := next of s if s is a splice, else s. Stay.
+  unfoldable pub lookOnOf : Call → ℕ → Moved
+  lookOnOf call key = let s = s-of-c in
+      cond (isSplice t s)
+      (goesOn (goesTo q (Look call key) (record { p = 0; n = 0; c = nextAt t s; s = 0; r = 0 })))
+      (goesOn (goesTo q (Look call key) (record { p = 0; n = 0; c = s; s = 0; r = 0 })))
+
+  -- LOOK: on while c is below the key; otherwise c has landed
   unfoldable pub lookOf : Call → ℕ → Moved
-  lookOf call k =
-      cond (belowKey t (q .c) k)
-      (cond (isSplice t s-of-c) (reads (looking q call k (nextAt t s-of-c)) Keep) (reads (looking q call k s-of-c) Keep))
-      (landedContainsOf k)
+  lookOf call key = cond (belowKey t (q .c) key) (lookOnOf call key) (landedContainsOf key)
 
 -- the move of a party at its place; an idle party makes no access
 abbrev pub placeOf : Place → Table → Party → Moved
-placeOf Idle t q = record { party = q; said = Nothing; access = None; write = Keep }
-placeOf (Walk call k) t q = walkOf t q call k
-placeOf (Skip call k) t q = skipOf t q call k
-placeOf (AddSwap call k) t q = addSwapOf t q call k
-placeOf (Mark call k) t q = markOf t q call k
-placeOf (Reread call k) t q = rereadOf t q call k
-placeOf (Clean call k) t q = cleanOf t q call k
-placeOf (Back call k) t q = backOf t q call k
-placeOf (Look call k) t q = lookOf t q call k
+placeOf Idle t q = record { party = q; said = Nothing; access = None; write = Untouched }
+placeOf (Walk call key) t q = walkOf t q call key
+placeOf (Skip call key) t q = skipOf t q call key
+placeOf (AddSwap call key) t q = addSwapOf t q call key
+placeOf (Mark call key) t q = markOf t q call key
+placeOf (Reread call key) t q = rereadOf t q call key
+placeOf (Clean call key) t q = cleanOf t q call key
+placeOf (Back call key) t q = backOf t q call key
+placeOf (Look call key) t q = lookOf t q call key

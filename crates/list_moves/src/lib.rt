@@ -1,21 +1,25 @@
 // The moves, one function for each place: what a party does with the one access that it makes there.
+use calls::Access;
+use calls::Call;
+use calls::Said;
 use columns::read_u16;
-use list_party::Access;
-use list_party::Call;
 use list_party::Party;
 use list_party::Place;
+use list_party::Values;
 use list_rows::Row;
 use list_rows::Write;
 ghost use mathlib.Core.Path.{_≡_};
-ghost use Rattle.list_rows.specs.Table.{tab};
+ghost use Rattle.list_rows.specs.Table.{before};
 ghost use Rattle.list_moves.specs.Moves.{
-  reads,
+  goesOn,
+  readies,
   answers,
-  wins,
-  loses,
-  onwardOf,
+  swapOf,
   prepareOf,
+  onwardOf,
   landedAddOf,
+  landedUnmarkedOf,
+  landedMarkedOf,
   landedRemoveOf,
   landedContainsOf,
   walkOf,
@@ -25,16 +29,10 @@ ghost use Rattle.list_moves.specs.Moves.{
   rereadOf,
   cleanOf,
   backOf,
+  lookOnOf,
   lookOf,
   placeOf,
 };
-
-// What is said with a move: nothing yet, or the answer of the call.
-pub enum Said {
-    Nothing,
-    Yes,
-    No,
-}
 
 // What a move comes to: the party after it, what is said, what came of the access, what is written.
 pub struct Moved {
@@ -44,9 +42,28 @@ pub struct Moved {
     pub write: Write,
 }
 
+// A swap of the next of a row, from the row that is expected there to another.
+struct Swap {
+    row: u16,
+    from: u16,
+    to: u16,
+}
+
 // After a read the call goes on.
-fn reads(party: Party, write: Write) -> Moved
-    ensures { λ r. ⌜ r ≡ reads party write ⌝ }
+fn goes_on(party: Party) -> Moved
+    ensures { λ r. ⌜ r ≡ goesOn party ⌝ }
+{
+    Moved {
+        party,
+        said: Said::Nothing,
+        access: Access::Read,
+        write: Write::Untouched,
+    }
+}
+
+// After a read the own row is made ready for a swap.
+fn readies(party: Party, write: Write) -> Moved
+    ensures { λ r. ⌜ r ≡ readies party write ⌝ }
 {
     Moved {
         party,
@@ -64,32 +81,52 @@ fn answers(party: Party, answer: Said) -> Moved
         party: party.idling(),
         said: answer,
         access: Access::Read,
-        write: Write::Keep,
+        write: Write::Untouched,
     }
 }
 
-// A swap on the next of a row is won.
-fn wins(party: Party, said: Said, row: u16, to: u16) -> Moved
-    ensures { λ r. ⌜ r ≡ wins party said row to ⌝ }
+// A swap: won if the next still holds the expected row, else lost, and then no row changes.
+fn try_swap(
+    kind: &[u8],
+    key: &[u32],
+    next: &[u16],
+    back: &[u16],
+    what: Swap,
+    won: Party,
+    said: Said,
+    lost: Party,
+) -> Moved
+    ensures { λ r. ⌜ r ≡ swapOf (before kind key next back) what won said lost ⌝ }
 {
-    Moved {
-        party,
-        said,
-        access: Access::Won,
-        write: Write::Link(row, to),
+    if read_u16(next, what.row) == what.from {
+        return Moved {
+            party: won,
+            said,
+            access: Access::Won,
+            write: Write::Link(what.row, what.to),
+        };
     }
-}
-
-// A swap is lost and changes no row.
-fn loses(party: Party) -> Moved
-    ensures { λ r. ⌜ r ≡ loses party ⌝ }
-{
     Moved {
-        party,
+        party: lost,
         said: Said::Nothing,
         access: Access::Lost,
-        write: Write::Keep,
+        write: Write::Untouched,
     }
+}
+
+// The own row is linked to where the walk has ended, and the swap comes next.
+fn prepare(party: Party, call: Call, wanted: u32) -> Moved
+    ensures { λ r. ⌜ r ≡ prepareOf party call wanted ⌝ }
+{
+    let kept = Values {
+        p: party.p,
+        n: party.n,
+        c: 0,
+        s: 0,
+        r: 0,
+    };
+    let link = Write::Link(party.own, party.c);
+    readies(party.goes_to(Place::AddSwap(call, wanted), kept), link)
 }
 
 // WALK below the key: past a removed row c moves alone, else p and n come along.
@@ -102,25 +139,28 @@ fn onward(
     call: Call,
     wanted: u32,
 ) -> Moved
-    ensures { λ r. ⌜ r ≡ onwardOf (tab (now (kind .entry)) (now (key .entry)) (now (next .entry)) (now (back .entry))) party call wanted ⌝ }
+    ensures { λ r. ⌜ r ≡ onwardOf (before kind key next back) party call wanted ⌝ }
 {
     let s = read_u16(next, party.c);
     if Row(s).is_splice(kind) {
         let beyond = read_u16(next, s);
-        return reads(
-            party.walking(call, wanted, party.p, party.n, beyond),
-            Write::Keep,
-        );
+        let past = Values {
+            p: party.p,
+            n: party.n,
+            c: beyond,
+            s: 0,
+            r: party.r,
+        };
+        return goes_on(party.goes_to(Place::Walk(call, wanted), past));
     }
-    reads(party.walking(call, wanted, party.c, s, s), Write::Keep)
-}
-
-// The own row is linked to where the walk has ended, and the swap comes next.
-fn prepare(party: Party, call: Call, wanted: u32) -> Moved
-    ensures { λ r. ⌜ r ≡ prepareOf party call wanted ⌝ }
-{
-    let link = Write::Link(party.own, party.c);
-    reads(party.adding(call, wanted, party.p, party.n), link)
+    let on = Values {
+        p: party.c,
+        n: s,
+        c: s,
+        s: 0,
+        r: party.r,
+    };
+    goes_on(party.goes_to(Place::Walk(call, wanted), on))
 }
 
 // An ADD that has landed.
@@ -132,15 +172,19 @@ fn landed_add(
     party: Party,
     wanted: u32,
 ) -> Moved
-    ensures { λ r. ⌜ r ≡ landedAddOf (tab (now (kind .entry)) (now (key .entry)) (now (next .entry)) (now (back .entry))) party wanted ⌝ }
+    ensures { λ r. ⌜ r ≡ landedAddOf (before kind key next back) party wanted ⌝ }
 {
     let s = read_u16(next, party.c);
     if Row(s).is_splice(kind) {
         let beyond = read_u16(next, s);
-        return reads(
-            party.skipping(Call::Add, wanted, party.p, party.n, beyond),
-            Write::Keep,
-        );
+        let past = Values {
+            p: party.p,
+            n: party.n,
+            c: beyond,
+            s: 0,
+            r: 0,
+        };
+        return goes_on(party.goes_to(Place::Skip(Call::Add, wanted), past));
     }
     if Row(party.c).equals_key(kind, key, wanted) {
         return answers(party, Said::No);
@@ -148,7 +192,62 @@ fn landed_add(
     prepare(party, Call::Add, wanted)
 }
 
-// A REMOVE that has landed.
+// A REMOVE that is not yet marked has landed.
+fn landed_unmarked(
+    kind: &[u8],
+    key: &[u32],
+    next: &[u16],
+    back: &[u16],
+    party: Party,
+    wanted: u32,
+) -> Moved
+    ensures { λ r. ⌜ r ≡ landedUnmarkedOf (before kind key next back) party wanted ⌝ }
+{
+    let s = read_u16(next, party.c);
+    let differs = !Row(party.c).equals_key(kind, key, wanted);
+    if differs | Row(s).is_splice(kind) {
+        return answers(party, Said::No);
+    }
+    let kept = Values {
+        p: party.p,
+        n: party.n,
+        c: party.c,
+        s: s,
+        r: 0,
+    };
+    let splice = Write::Splice(party.own, s, party.p);
+    readies(
+        party.goes_to(Place::Mark(Call::Remove, wanted), kept),
+        splice,
+    )
+}
+
+// A REMOVE that is already marked has landed: where its splice is gone somebody has cleaned up.
+fn landed_marked(
+    kind: &[u8],
+    key: &[u32],
+    next: &[u16],
+    back: &[u16],
+    party: Party,
+    wanted: u32,
+) -> Moved
+    ensures { λ r. ⌜ r ≡ landedMarkedOf (before kind key next back) party wanted ⌝ }
+{
+    let s = read_u16(next, party.c);
+    if s != party.own {
+        return answers(party, Said::Yes);
+    }
+    let kept = Values {
+        p: party.p,
+        n: party.n,
+        c: 0,
+        s: 0,
+        r: party.r,
+    };
+    goes_on(party.goes_to(Place::Clean(Call::Remove, wanted), kept))
+}
+
+// A REMOVE that has landed; it is marked if its own row is published.
 fn landed_remove(
     kind: &[u8],
     key: &[u32],
@@ -157,27 +256,12 @@ fn landed_remove(
     party: Party,
     wanted: u32,
 ) -> Moved
-    ensures { λ r. ⌜ r ≡ landedRemoveOf (tab (now (kind .entry)) (now (key .entry)) (now (next .entry)) (now (back .entry))) party wanted ⌝ }
+    ensures { λ r. ⌜ r ≡ landedRemoveOf (before kind key next back) party wanted ⌝ }
 {
-    let s = read_u16(next, party.c);
-    if !party.unpublished {
-        if s == party.own {
-            return reads(
-                party.cleaning(Call::Remove, wanted, party.p, party.n, party.r),
-                Write::Keep,
-            );
-        }
-        return answers(party, Said::Yes);
+    if party.unpublished {
+        return landed_unmarked(kind, key, next, back, party, wanted);
     }
-    let differs = !Row(party.c).equals_key(kind, key, wanted);
-    if differs | Row(s).is_splice(kind) {
-        return answers(party, Said::No);
-    }
-    let splice = Write::Splice(party.own, s, party.p);
-    reads(
-        party.marking(Call::Remove, wanted, party.p, party.n, party.c, s),
-        splice,
-    )
+    landed_marked(kind, key, next, back, party, wanted)
 }
 
 // A CONTAINS that has landed.
@@ -189,7 +273,7 @@ fn landed_contains(
     party: Party,
     wanted: u32,
 ) -> Moved
-    ensures { λ r. ⌜ r ≡ landedContainsOf (tab (now (kind .entry)) (now (key .entry)) (now (next .entry)) (now (back .entry))) party wanted ⌝ }
+    ensures { λ r. ⌜ r ≡ landedContainsOf (before kind key next back) party wanted ⌝ }
 {
     let s = read_u16(next, party.c);
     let equal = Row(party.c).equals_key(kind, key, wanted);
@@ -209,7 +293,7 @@ fn walk(
     call: Call,
     wanted: u32,
 ) -> Moved
-    ensures { λ r. ⌜ r ≡ walkOf (tab (now (kind .entry)) (now (key .entry)) (now (next .entry)) (now (back .entry))) party call wanted ⌝ }
+    ensures { λ r. ⌜ r ≡ walkOf (before kind key next back) party call wanted ⌝ }
 {
     if Row(party.c).below_key(kind, key, wanted) {
         return onward(kind, key, next, back, party, call, wanted);
@@ -231,15 +315,19 @@ fn skip(
     call: Call,
     wanted: u32,
 ) -> Moved
-    ensures { λ r. ⌜ r ≡ skipOf (tab (now (kind .entry)) (now (key .entry)) (now (next .entry)) (now (back .entry))) party call wanted ⌝ }
+    ensures { λ r. ⌜ r ≡ skipOf (before kind key next back) party call wanted ⌝ }
 {
     let s = read_u16(next, party.c);
     if Row(s).is_splice(kind) {
         let beyond = read_u16(next, s);
-        return reads(
-            party.skipping(call, wanted, party.p, party.n, beyond),
-            Write::Keep,
-        );
+        let past = Values {
+            p: party.p,
+            n: party.n,
+            c: beyond,
+            s: 0,
+            r: 0,
+        };
+        return goes_on(party.goes_to(Place::Skip(call, wanted), past));
     }
     prepare(party, call, wanted)
 }
@@ -254,12 +342,23 @@ fn add_swap(
     call: Call,
     wanted: u32,
 ) -> Moved
-    ensures { λ r. ⌜ r ≡ addSwapOf (tab (now (kind .entry)) (now (key .entry)) (now (next .entry)) (now (back .entry))) party call wanted ⌝ }
+    ensures { λ r. ⌜ r ≡ addSwapOf (before kind key next back) party call wanted ⌝ }
 {
-    if read_u16(next, party.p) == party.n {
-        return wins(party.published().idling(), Said::Yes, party.p, party.own);
-    }
-    loses(party.backing(call, wanted, party.p))
+    let what = Swap {
+        row: party.p,
+        from: party.n,
+        to: party.own,
+    };
+    let kept = Values {
+        p: party.p,
+        n: 0,
+        c: 0,
+        s: 0,
+        r: party.r,
+    };
+    let won = party.published().idling();
+    let lost = party.goes_to(Place::Back(call, wanted), kept);
+    try_swap(kind, key, next, back, what, won, Said::Yes, lost)
 }
 
 // MARK: the own splice goes in behind c, which removes c, unless something else stands there by now.
@@ -272,15 +371,30 @@ fn mark(
     call: Call,
     wanted: u32,
 ) -> Moved
-    ensures { λ r. ⌜ r ≡ markOf (tab (now (kind .entry)) (now (key .entry)) (now (next .entry)) (now (back .entry))) party call wanted ⌝ }
+    ensures { λ r. ⌜ r ≡ markOf (before kind key next back) party call wanted ⌝ }
 {
-    if read_u16(next, party.c) == party.s {
-        let marked = party
-            .published()
-            .cleaning(call, wanted, party.p, party.n, party.s);
-        return wins(marked, Said::Nothing, party.c, party.own);
-    }
-    loses(party.rereading(call, wanted, party.p, party.n, party.c))
+    let what = Swap {
+        row: party.c,
+        from: party.s,
+        to: party.own,
+    };
+    let then = Values {
+        p: party.p,
+        n: party.n,
+        c: 0,
+        s: 0,
+        r: party.s,
+    };
+    let kept = Values {
+        p: party.p,
+        n: party.n,
+        c: party.c,
+        s: 0,
+        r: 0,
+    };
+    let won = party.published().goes_to(Place::Clean(call, wanted), then);
+    let lost = party.goes_to(Place::Reread(call, wanted), kept);
+    try_swap(kind, key, next, back, what, won, Said::Nothing, lost)
 }
 
 // REREAD: a splice behind c means that another party was first; else the own splice is led to what stands there now.
@@ -293,17 +407,21 @@ fn reread(
     call: Call,
     wanted: u32,
 ) -> Moved
-    ensures { λ r. ⌜ r ≡ rereadOf (tab (now (kind .entry)) (now (key .entry)) (now (next .entry)) (now (back .entry))) party call wanted ⌝ }
+    ensures { λ r. ⌜ r ≡ rereadOf (before kind key next back) party call wanted ⌝ }
 {
     let s = read_u16(next, party.c);
     if Row(s).is_splice(kind) {
         return answers(party, Said::No);
     }
+    let kept = Values {
+        p: party.p,
+        n: party.n,
+        c: party.c,
+        s: s,
+        r: 0,
+    };
     let link = Write::Link(party.own, s);
-    reads(
-        party.marking(call, wanted, party.p, party.n, party.c, s),
-        link,
-    )
+    readies(party.goes_to(Place::Mark(call, wanted), kept), link)
 }
 
 // CLEAN: p is led past the removed rows, unless something else stands behind p by now.
@@ -316,12 +434,22 @@ fn clean(
     call: Call,
     wanted: u32,
 ) -> Moved
-    ensures { λ r. ⌜ r ≡ cleanOf (tab (now (kind .entry)) (now (key .entry)) (now (next .entry)) (now (back .entry))) party call wanted ⌝ }
+    ensures { λ r. ⌜ r ≡ cleanOf (before kind key next back) party call wanted ⌝ }
 {
-    if read_u16(next, party.p) == party.n {
-        return wins(party.idling(), Said::Yes, party.p, party.r);
-    }
-    loses(party.backing(call, wanted, party.p))
+    let what = Swap {
+        row: party.p,
+        from: party.n,
+        to: party.r,
+    };
+    let kept = Values {
+        p: party.p,
+        n: 0,
+        c: 0,
+        s: 0,
+        r: party.r,
+    };
+    let lost = party.goes_to(Place::Back(call, wanted), kept);
+    try_swap(kind, key, next, back, what, party.idling(), Said::Yes, lost)
 }
 
 // BACK: from a removed p to the row that its splice names, and from there the walk starts again.
@@ -334,17 +462,65 @@ fn go_back(
     call: Call,
     wanted: u32,
 ) -> Moved
-    ensures { λ r. ⌜ r ≡ backOf (tab (now (kind .entry)) (now (key .entry)) (now (next .entry)) (now (back .entry))) party call wanted ⌝ }
+    ensures { λ r. ⌜ r ≡ backOf (before kind key next back) party call wanted ⌝ }
 {
     let n = read_u16(next, party.p);
     if Row(n).is_splice(kind) {
-        let before = read_u16(back, n);
-        return reads(party.backing(call, wanted, before), Write::Keep);
+        let behind = read_u16(back, n);
+        let kept = Values {
+            p: behind,
+            n: 0,
+            c: 0,
+            s: 0,
+            r: party.r,
+        };
+        return goes_on(party.goes_to(Place::Back(call, wanted), kept));
     }
-    reads(party.walking(call, wanted, party.p, n, n), Write::Keep)
+    let again = Values {
+        p: party.p,
+        n: n,
+        c: n,
+        s: 0,
+        r: party.r,
+    };
+    goes_on(party.goes_to(Place::Walk(call, wanted), again))
 }
 
-// LOOK: one row on, through splices, while c is below the key.
+// LOOK below the key: one row on, through a splice.
+fn look_on(
+    kind: &[u8],
+    key: &[u32],
+    next: &[u16],
+    back: &[u16],
+    party: Party,
+    call: Call,
+    wanted: u32,
+) -> Moved
+    ensures { λ r. ⌜ r ≡ lookOnOf (before kind key next back) party call wanted ⌝ }
+{
+    let s = read_u16(next, party.c);
+    if Row(s).is_splice(kind) {
+        let beyond = read_u16(next, s);
+        let past = Values {
+            p: 0,
+            n: 0,
+            c: beyond,
+            s: 0,
+            r: 0,
+        };
+        return goes_on(party.goes_to(Place::Look(call, wanted), past));
+    }
+    let on = Values {
+        p: 0,
+        n: 0,
+        c: s,
+        s: 0,
+        r: 0,
+    };
+    goes_on(party.goes_to(Place::Look(call, wanted), on))
+}
+
+// LOOK: on while c is below the key; else c has landed.
 fn look(
     kind: &[u8],
     key: &[u32],
@@ -354,22 +530,17 @@ fn look(
     call: Call,
     wanted: u32,
 ) -> Moved
-    ensures { λ r. ⌜ r ≡ lookOf (tab (now (kind .entry)) (now (key .entry)) (now (next .entry)) (now (back .entry))) party call wanted ⌝ }
+    ensures { λ r. ⌜ r ≡ lookOf (before kind key next back) party call wanted ⌝ }
 {
-    let s = read_u16(next, party.c);
     if Row(party.c).below_key(kind, key, wanted) {
-        if Row(s).is_splice(kind) {
-            let beyond = read_u16(next, s);
-            return reads(party.looking(call, wanted, beyond), Write::Keep);
-        }
-        return reads(party.looking(call, wanted, s), Write::Keep);
+        return look_on(kind, key, next, back, party, call, wanted);
     }
     landed_contains(kind, key, next, back, party, wanted)
 }
 
-// The move of a party at its place; an idle one makes no access.
+// The move of a party at its place; an idle one makes no access. Nothing is tested or refused.
 pub fn place_move(kind: &[u8], key: &[u32], next: &[u16], back: &[u16], party: Party) -> Moved
-    ensures { λ r. ⌜ r ≡ placeOf (party .place) (tab (now (kind .entry)) (now (key .entry)) (now (next .entry)) (now (back .entry))) party ⌝ }
+    ensures { λ r. ⌜ r ≡ placeOf (party .place) (before kind key next back) party ⌝ }
 {
     let place = party.place;
     match place {
@@ -377,7 +548,7 @@ pub fn place_move(kind: &[u8], key: &[u32], next: &[u16], back: &[u16], party: P
             party,
             said: Said::Nothing,
             access: Access::None,
-            write: Write::Keep,
+            write: Write::Untouched,
         },
         Place::Walk(call, wanted) => walk(kind, key, next, back, party, call, wanted),
         Place::Skip(call, wanted) => skip(kind, key, next, back, party, call, wanted),

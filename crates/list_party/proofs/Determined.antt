@@ -2,23 +2,24 @@
 -- Assumes nothing.
 use Rattle.logic.specs.Outcome.{OneOutcome}
 use Rattle.logic.proofs.Outcome.{by-equation}
+use Rattle.list_party.proofs.Place.is_idle.Reads as is-idle
+use Rattle.list_party.proofs.Place.asked.Reads as asked
 use Rattle.list_party.proofs.Party.blank.Reads as blank
 use Rattle.list_party.proofs.Party.idling.Reads as idling
 use Rattle.list_party.proofs.Party.published.Reads as published
-use Rattle.list_party.proofs.Party.starting.Reads as starting
-use Rattle.list_party.proofs.Party.walking.Reads as walking
-use Rattle.list_party.proofs.Party.skipping.Reads as skipping
-use Rattle.list_party.proofs.Party.adding.Reads as adding
-use Rattle.list_party.proofs.Party.marking.Reads as marking
-use Rattle.list_party.proofs.Party.rereading.Reads as rereading
-use Rattle.list_party.proofs.Party.cleaning.Reads as cleaning
-use Rattle.list_party.proofs.Party.backing.Reads as backing
-use Rattle.list_party.proofs.Party.looking.Reads as looking
+use Rattle.list_party.proofs.Party.goes_to.Reads as goes-to
 use Rattle.list_party.proofs.one_taken.Reads as one-taken
+use Rattle.list_party.proofs.State.resting.Reads as resting
 use Rattle.list_party.proofs.State.party_at.Reads as party-at
 use Rattle.list_party.proofs.State.with_party.Reads as with-party
 use Rattle.list_party.proofs.State.with_taken.Reads as with-taken
 use Rattle.list_party.proofs.State.tallied.Reads as tallied
+
+pub is-idle-fixed : OneOutcome is-idle.Post (λ κs answer exit. answer)
+is-idle-fixed κs given answer₁ answer₂ exit₁ exit₂ = by-equation
+
+pub asked-fixed : OneOutcome asked.Post (λ κs answer exit. answer)
+asked-fixed κs given answer₁ answer₂ exit₁ exit₂ = by-equation
 
 pub blank-fixed : OneOutcome blank.Post (λ κs answer exit. answer)
 blank-fixed κs given answer₁ answer₂ exit₁ exit₂ = by-equation
@@ -29,35 +30,14 @@ idling-fixed κs given answer₁ answer₂ exit₁ exit₂ = by-equation
 pub published-fixed : OneOutcome published.Post (λ κs answer exit. answer)
 published-fixed κs given answer₁ answer₂ exit₁ exit₂ = by-equation
 
-pub starting-fixed : OneOutcome starting.Post (λ κs answer exit. answer)
-starting-fixed κs given answer₁ answer₂ exit₁ exit₂ = by-equation
-
-pub walking-fixed : OneOutcome walking.Post (λ κs answer exit. answer)
-walking-fixed κs given answer₁ answer₂ exit₁ exit₂ = by-equation
-
-pub skipping-fixed : OneOutcome skipping.Post (λ κs answer exit. answer)
-skipping-fixed κs given answer₁ answer₂ exit₁ exit₂ = by-equation
-
-pub adding-fixed : OneOutcome adding.Post (λ κs answer exit. answer)
-adding-fixed κs given answer₁ answer₂ exit₁ exit₂ = by-equation
-
-pub marking-fixed : OneOutcome marking.Post (λ κs answer exit. answer)
-marking-fixed κs given answer₁ answer₂ exit₁ exit₂ = by-equation
-
-pub rereading-fixed : OneOutcome rereading.Post (λ κs answer exit. answer)
-rereading-fixed κs given answer₁ answer₂ exit₁ exit₂ = by-equation
-
-pub cleaning-fixed : OneOutcome cleaning.Post (λ κs answer exit. answer)
-cleaning-fixed κs given answer₁ answer₂ exit₁ exit₂ = by-equation
-
-pub backing-fixed : OneOutcome backing.Post (λ κs answer exit. answer)
-backing-fixed κs given answer₁ answer₂ exit₁ exit₂ = by-equation
-
-pub looking-fixed : OneOutcome looking.Post (λ κs answer exit. answer)
-looking-fixed κs given answer₁ answer₂ exit₁ exit₂ = by-equation
+pub goes-to-fixed : OneOutcome goes-to.Post (λ κs answer exit. answer)
+goes-to-fixed κs given answer₁ answer₂ exit₁ exit₂ = by-equation
 
 pub one-taken-fixed : OneOutcome one-taken.Post (λ κs answer exit. answer)
 one-taken-fixed κs given answer₁ answer₂ exit₁ exit₂ = by-equation
+
+pub resting-fixed : OneOutcome resting.Post (λ κs answer exit. answer)
+resting-fixed κs given answer₁ answer₂ exit₁ exit₂ = by-equation
 
 pub party-at-fixed : OneOutcome party-at.Post (λ κs answer exit. answer)
 party-at-fixed κs given answer₁ answer₂ exit₁ exit₂ = by-equation

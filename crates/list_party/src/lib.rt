@@ -1,33 +1,12 @@
-// Parties and the state: what a party record holds, a maker for each place, the party table, the tallies.
+// Parties and the state: what a party record holds, a record at its next place, the party table.
+use calls::Access;
+use calls::Asked;
+use calls::Call;
+use calls::Tallies;
 ghost use mathlib.Core.Path.{_≡_};
-ghost use Prim.Native.Nat.{_+_};
-ghost use Rattle.list_party.specs.Party.{
-  partyAt,
-  withParty,
-  spareOf,
-  idling,
-  published,
-  walking,
-  skipping,
-  adding,
-  marking,
-  rereading,
-  cleaning,
-  backing,
-  looking,
-  blank,
-  starting,
-  withTaken,
-  oneMore,
-  tallied,
-};
-
-// What a party was asked to do.
-pub enum Call {
-    Add,
-    Remove,
-    Contains,
-}
+ghost use Rattle.calls.specs.Tallies.{oneMore};
+ghost use Rattle.list_party.specs.Party.{blank, spareOf, idling, published, goesTo, isIdle, askedAt};
+ghost use Rattle.list_party.specs.State.{partyAt, withParty, withTaken, tallied, restingState};
 
 // A party's place in the work: idle, or a place with the call and the key.
 pub enum Place {
@@ -42,9 +21,8 @@ pub enum Place {
     Look(Call, u32),
 }
 
-// A party record. A value that the place does not keep is 0.
-pub struct Party {
-    pub place: Place,
+// The rows that a party keeps at its place; one that the place does not keep is 0.
+pub struct Values {
     // the row below the key whose next ADDSWAP and CLEAN swap
     pub p: u16,
     // what the party expects to be the next of p
@@ -54,6 +32,16 @@ pub struct Party {
     // what MARK expects to be the next of c
     pub s: u16,
     // the row to which CLEAN leads p: what stood behind the removed row
+    pub r: u16,
+}
+
+// A party record: its place, the values of the place, and its own row.
+pub struct Party {
+    pub place: Place,
+    pub p: u16,
+    pub n: u16,
+    pub c: u16,
+    pub s: u16,
     pub r: u16,
     // the row of the call: an item for an ADD, the splice for a REMOVE; of an idle or looking party its spare
     pub own: u16,
@@ -66,22 +54,51 @@ pub struct State {
     pub parties: [Party; 16],
     pub count: u8,
     pub taken: u16,
-    pub moves: u32,
-    pub won: u32,
-    pub lost: u32,
+    pub tallies: Tallies,
 }
 
-// What came of the access of a move.
-pub enum Access {
-    None,
-    Read,
-    Won,
-    Lost,
+impl Place {
+    // Whether a party at this place has no call.
+    pub fn is_idle(self) -> bool
+        ensures { λ r. ⌜ r ≡ isIdle self ⌝ }
+    {
+        match self {
+            Place::Idle => true,
+            Place::Walk(_, _) => false,
+            Place::Skip(_, _) => false,
+            Place::AddSwap(_, _) => false,
+            Place::Mark(_, _) => false,
+            Place::Reread(_, _) => false,
+            Place::Clean(_, _) => false,
+            Place::Back(_, _) => false,
+            Place::Look(_, _) => false,
+        }
+    }
+
+    // The call and the key that a place carries. An idle party has neither, and is never answered.
+    pub fn asked(self) -> Asked
+        ensures { λ r. ⌜ r ≡ askedAt self ⌝ }
+    {
+        match self {
+            Place::Idle => Asked {
+                call: Call::Contains,
+                key: 0,
+            },
+            Place::Walk(call, key) => Asked { call, key },
+            Place::Skip(call, key) => Asked { call, key },
+            Place::AddSwap(call, key) => Asked { call, key },
+            Place::Mark(call, key) => Asked { call, key },
+            Place::Reread(call, key) => Asked { call, key },
+            Place::Clean(call, key) => Asked { call, key },
+            Place::Back(call, key) => Asked { call, key },
+            Place::Look(call, key) => Asked { call, key },
+        }
+    }
 }
 
 impl Party {
     // Idle without a spare.
-    pub fn blank() -> Self
+    pub fn blank() -> Party
         ensures { λ r. ⌜ r ≡ blank ⌝ }
     {
         Party {
@@ -136,156 +153,21 @@ impl Party {
         }
     }
 
-    // An ADD or a REMOVE at its start, with its own row.
-    pub fn starting(call: Call, wanted: u32, own: u16) -> Self
-        ensures { λ r. ⌜ r ≡ starting call wanted own ⌝ }
+    // The party at a place with these values; its own row stays with it.
+    pub fn goes_to(self, place: Place, values: Values) -> Party
+        ensures { λ r. ⌜ r ≡ goesTo self place values ⌝ }
     {
         Party {
-            place: Place::Walk(call, wanted),
-            p: 0,
-            n: 1,
-            c: 1,
-            s: 0,
-            r: 0,
-            own,
-            unpublished: true,
-        }
-    }
-
-    // At WALK; r goes along, for a marked REMOVE.
-    pub fn walking(self, call: Call, wanted: u32, p: u16, n: u16, c: u16) -> Party
-        ensures { λ r. ⌜ r ≡ walking self call wanted p n c ⌝ }
-    {
-        Party {
-            place: Place::Walk(call, wanted),
-            p,
-            n,
-            c,
-            s: 0,
-            r: self.r,
+            place,
+            p: values.p,
+            n: values.n,
+            c: values.c,
+            s: values.s,
+            r: values.r,
             own: self.own,
             unpublished: self.unpublished,
         }
     }
-
-    // At SKIP.
-    pub fn skipping(self, call: Call, wanted: u32, p: u16, n: u16, c: u16) -> Party
-        ensures { λ r. ⌜ r ≡ skipping self call wanted p n c ⌝ }
-    {
-        Party {
-            place: Place::Skip(call, wanted),
-            p,
-            n,
-            c,
-            s: 0,
-            r: 0,
-            own: self.own,
-            unpublished: self.unpublished,
-        }
-    }
-
-    // At ADDSWAP.
-    pub fn adding(self, call: Call, wanted: u32, p: u16, n: u16) -> Party
-        ensures { λ r. ⌜ r ≡ adding self call wanted p n ⌝ }
-    {
-        Party {
-            place: Place::AddSwap(call, wanted),
-            p,
-            n,
-            c: 0,
-            s: 0,
-            r: 0,
-            own: self.own,
-            unpublished: self.unpublished,
-        }
-    }
-
-    // At MARK.
-    pub fn marking(self, call: Call, wanted: u32, p: u16, n: u16, c: u16, s: u16) -> Party
-        ensures { λ r. ⌜ r ≡ marking self call wanted p n c s ⌝ }
-    {
-        Party {
-            place: Place::Mark(call, wanted),
-            p,
-            n,
-            c,
-            s,
-            r: 0,
-            own: self.own,
-            unpublished: self.unpublished,
-        }
-    }
-
-    // At REREAD.
-    pub fn rereading(self, call: Call, wanted: u32, p: u16, n: u16, c: u16) -> Party
-        ensures { λ r. ⌜ r ≡ rereading self call wanted p n c ⌝ }
-    {
-        Party {
-            place: Place::Reread(call, wanted),
-            p,
-            n,
-            c,
-            s: 0,
-            r: 0,
-            own: self.own,
-            unpublished: self.unpublished,
-        }
-    }
-
-    // At CLEAN.
-    pub fn cleaning(self, call: Call, wanted: u32, p: u16, n: u16, r: u16) -> Party
-        ensures { λ made. ⌜ made ≡ cleaning self call wanted p n r ⌝ }
-    {
-        Party {
-            place: Place::Clean(call, wanted),
-            p,
-            n,
-            c: 0,
-            s: 0,
-            r,
-            own: self.own,
-            unpublished: self.unpublished,
-        }
-    }
-
-    // At BACK; r goes along, for a marked REMOVE.
-    pub fn backing(self, call: Call, wanted: u32, p: u16) -> Party
-        ensures { λ r. ⌜ r ≡ backing self call wanted p ⌝ }
-    {
-        Party {
-            place: Place::Back(call, wanted),
-            p,
-            n: 0,
-            c: 0,
-            s: 0,
-            r: self.r,
-            own: self.own,
-            unpublished: self.unpublished,
-        }
-    }
-
-    // At LOOK.
-    pub fn looking(self, call: Call, wanted: u32, c: u16) -> Party
-        ensures { λ r. ⌜ r ≡ looking self call wanted c ⌝ }
-    {
-        Party {
-            place: Place::Look(call, wanted),
-            p: 0,
-            n: 0,
-            c,
-            s: 0,
-            r: 0,
-            own: self.own,
-            unpublished: self.unpublished,
-        }
-    }
-}
-
-// A tally with one more; at the largest number it stays.
-fn one_more(tally: u32) -> u32
-    ensures { λ r. ⌜ r ≡ oneMore 4294967295 tally ⌝ }
-{
-    if tally < 4294967295 { tally + 1 } else { tally }
 }
 
 // The number of rows taken with one more; at the largest number it stays.
@@ -296,6 +178,20 @@ pub fn one_taken(taken: u16) -> u16
 }
 
 impl State {
+    // So many parties at rest and so many rows taken, nothing counted yet. Of no party and no row: what a program has before its set-up.
+    pub fn resting(parties: u8, taken: u16) -> State
+        ensures { λ r. ⌜ r ≡ restingState parties taken ⌝ }
+    {
+        let none = Party::blank();
+        let table = [none; 16];
+        State {
+            parties: table,
+            count: parties,
+            taken,
+            tallies: Tallies::none(),
+        }
+    }
+
     // The record of a party; past the table, a blank one.
     pub fn party_at(self, number: u32) -> Party
         ensures { λ r. ⌜ r ≡ partyAt self number ⌝ }
@@ -334,22 +230,9 @@ impl State {
         ensures { λ r. ⌜ r ≡ tallied access self ⌝ }
     {
         let mut after = self;
-        match access {
-            Access::None => after,
-            Access::Read => {
-                after.moves = one_more(self.moves);
-                after
-            }
-            Access::Won => {
-                after.moves = one_more(self.moves);
-                after.won = one_more(self.won);
-                after
-            }
-            Access::Lost => {
-                after.moves = one_more(self.moves);
-                after.lost = one_more(self.lost);
-                after
-            }
-        }
+        let tallies = self.tallies;
+        let more = tallies.counted(access);
+        after.tallies = more;
+        after
     }
 }

@@ -4,12 +4,13 @@ use Prim.{Unit}
 use mathlib.Core.Path.{_≡_, refl, ap, sym, _∙_}
 use native.Mathlib.Omega.{arith}
 use Rattle.refusal.specs.Answer.{accepted, refused, Left, left, Tests, passed, leaving}
-use Rattle.list_moves.specs.declared.Said.{Said}
-use Rattle.list_unchecked.specs.Bare.{Machine, bareCallOf}
+use Rattle.calls.specs.declared.Said.{Said}
+use Rattle.list_unchecked.specs.Unchecked.{Machine, uncheckedCall}
 use Rattle.list_form.specs.Form.{rowsIn}
 use Rattle.field.specs.Field.{fieldAt}
 use Rattle.field.proofs.Promises.{loads-exactly}
-use Rattle.list.specs.Engine.{callNamed, callAsks}
+use Rattle.list.specs.Engine.{callAsks}
+use Rattle.calls.specs.Calls.{callNamed}
 use Rattle.list.specs.Run.{calls, moves, quiet, going}
 use Rattle.list.proofs.Promises.{call-is-bare, move-is-bare}
 use Rattle.list_play.specs.Turns.{plainTurn, fieldIn}
@@ -27,7 +28,7 @@ heard-leaving (refused number) found changed = refl
 pub plain-is-checked : PlainIsChecked
 unfolding plainTurn
 plain-is-checked m (calls party code key) fits good =
-    heard-leaving (callAsks (m .state) (rowsIn (m .table)) party code) m (bareCallOf m party (callNamed code) key)
+    heard-leaving (callAsks (m .state) (rowsIn (m .table)) party code) m (uncheckedCall m party (callNamed code) key)
     ∙ sym (ap heard (call-is-bare m party code key fits good))
 plain-is-checked m (moves party) fits good = sym (move-is-bare m party fits good)
 

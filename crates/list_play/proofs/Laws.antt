@@ -9,14 +9,15 @@ use Rattle.refusal.specs.Number.{numberOf}
 use Rattle.refusal.specs.Answer.{Answer, accepted, refused, left, verdictIs}
 use Rattle.refusal.proofs.Laws.{leaves-changed, leaves-found}
 use Rattle.refusal.proofs.Told.{tests-told}
-use Rattle.list_party.specs.declared.Call.{Call}
-use Rattle.list_moves.specs.declared.Said.{Said}
-use Rattle.list_unchecked.specs.Bare.{Machine, bareDone, bareCallOf, bareMoveOf}
+use Rattle.calls.specs.declared.Call.{Call}
+use Rattle.calls.specs.declared.Said.{Said}
+use Rattle.list_unchecked.specs.Unchecked.{Machine, made, uncheckedCall, uncheckedMove}
 use Rattle.list_form.specs.Form.{rowsIn}
 use Rattle.field.specs.declared.Loaded.{Loaded}
 use Rattle.field.specs.declared.Loaded.the-variants.{Key, Refused as NotLoaded}
 use Rattle.field.specs.Readings.{loadedIs}
-use Rattle.list.specs.Engine.{callNamed, callAsks, moveAsks, accepting}
+use Rattle.list.specs.Engine.{callAsks, moveAsks, accepting}
+use Rattle.calls.specs.Calls.{callNamed}
 use Rattle.list.specs.Run.{calls, moves, going}
 use Rattle.script.specs.declared.CallLine.{CallLine}
 use Rattle.list_play.specs.Turns.{plainTurn, loaded}
@@ -24,11 +25,11 @@ use Rattle.list_play.specs.Turns.{plainTurn, loaded}
 module _ (m : Machine) (party : ℕ) where
   pub calls-on : (code key : ℕ) {verdict : Verdict} {call : Call} {after : Machine} →
       verdictIs verdict ≡ callAsks (m .state) (rowsIn (m .table)) party code → verdict ≡ Accepted → call ≡ callNamed code →
-      after ≡ bareCallOf m party call key → left after going ≡ plainTurn m (calls party code key)
+      after ≡ uncheckedCall m party call key → left after going ≡ plainTurn m (calls party code key)
   unfolding plainTurn
   calls-on code key asks is named made =
       rw (made, named)
-      (leaves-changed (callAsks (m .state) (rowsIn (m .table)) party code) m (left (bareCallOf m party
+      (leaves-changed (callAsks (m .state) (rowsIn (m .table)) party code) m (left (uncheckedCall m party
       (callNamed code) key) going) (tests-told asks is))
 
   pub calls-off : (code key : ℕ) {verdict : Verdict} {why : Refusal} →
@@ -36,19 +37,19 @@ module _ (m : Machine) (party : ℕ) where
       left m (refused (numberOf why)) ≡ plainTurn m (calls party code key)
   unfolding plainTurn
   calls-off code key asks is =
-      leaves-found (callAsks (m .state) (rowsIn (m .table)) party code) m (left (bareCallOf m party (callNamed code) key) going)
+      leaves-found (callAsks (m .state) (rowsIn (m .table)) party code) m (left (uncheckedCall m party (callNamed code) key) going)
       (tests-told asks is)
 
   pub moves-on : {verdict : Verdict} {after : Machine} {said : Said} → verdictIs verdict ≡ moveAsks (m .state) party → verdict ≡ Accepted →
-      bareDone after said ≡ bareMoveOf m party → left after (accepted said) ≡ plainTurn m (moves party)
+      made after said ≡ uncheckedMove m party → left after (accepted said) ≡ plainTurn m (moves party)
   unfolding plainTurn
   moves-on asks is made =
-      ap accepting made ∙ leaves-changed (moveAsks (m .state) party) m (accepting (bareMoveOf m party)) (tests-told asks is)
+      ap accepting made ∙ leaves-changed (moveAsks (m .state) party) m (accepting (uncheckedMove m party)) (tests-told asks is)
 
   pub moves-off : {verdict : Verdict} {why : Refusal} → verdictIs verdict ≡ moveAsks (m .state) party → verdict ≡ Refused why →
       left m (refused (numberOf why)) ≡ plainTurn m (moves party)
   unfolding plainTurn
-  moves-off asks is = leaves-found (moveAsks (m .state) party) m (accepting (bareMoveOf m party)) (tests-told asks is)
+  moves-off asks is = leaves-found (moveAsks (m .state) party) m (accepting (uncheckedMove m party)) (tests-told asks is)
 
 -- the load of a line's key: it is there, or it is refused
 module _ (m : Machine) (c : CallLine) {field : Loaded} {answer : Answer ℕ} (load : loadedIs field ≡ answer) where

@@ -2,11 +2,12 @@
 use mathlib.Core.List.{List, [], _∷_}
 use Prim.Native.Nat.{ℕ}
 use Rattle.refusal.specs.Answer.{Answer, accepted, refused, Left, left, leaving}
-use Rattle.list_moves.specs.declared.Said.{Said}
-use Rattle.list_unchecked.specs.Bare.{Machine, bareCallOf, bareMoveOf}
+use Rattle.calls.specs.declared.Said.{Said}
+use Rattle.list_unchecked.specs.Unchecked.{Machine, uncheckedCall, uncheckedMove}
 use Rattle.list_form.specs.Form.{rowsIn}
 use Rattle.field.specs.Field.{loadOf}
-use Rattle.list.specs.Engine.{callNamed, callAsks, moveAsks, accepting}
+use Rattle.list.specs.Engine.{callAsks, moveAsks, accepting}
+use Rattle.calls.specs.Calls.{callNamed}
 use Rattle.list.specs.Run.{Event, calls, moves, going}
 use Rattle.script.specs.declared.CallLine.{CallLine}
 use Rattle.script.specs.declared.Line.{Line}
@@ -14,15 +15,15 @@ use Rattle.script.specs.declared.Line.the-variants.{Call, Step, End, Bad}
 
 -- ---- one event
 
--- how an engine takes an event: `turnOf` of `list`, which tests everything, or `plainTurn`
+-- how an engine takes an event: `eventOf` of `list`, which tests everything, or `plainTurn`
 abbrev pub TakesEvent : Type 0
 TakesEvent = Machine → Event → Left Machine Said
 
 -- an event without the tests for 1 and 3
 unfoldable pub plainTurn : TakesEvent
 plainTurn m (calls party code key) =
-    leaving (callAsks (m .state) (rowsIn (m .table)) party code) m (left (bareCallOf m party (callNamed code) key) going)
-plainTurn m (moves party) = leaving (moveAsks (m .state) party) m (accepting (bareMoveOf m party))
+    leaving (callAsks (m .state) (rowsIn (m .table)) party code) m (left (uncheckedCall m party (callNamed code) key) going)
+plainTurn m (moves party) = leaving (moveAsks (m .state) party) m (accepting (uncheckedMove m party))
 
 -- ---- one line
 

@@ -1,18 +1,18 @@
 // The turn of a line on a list that a program has set up itself: the refusals but 1 and 3, then the bare call or the bare move.
 use field::Loaded;
-use list::Reply;
+use calls::Reply;
 use list::Stepped;
 use list::call_asks;
 use list::call_named;
 use list::move_asks;
-use list_moves::Said;
+use calls::Said;
 use list_party::State;
 use refusal::Verdict;
 use script::CallLine;
 use script::Line;
 ghost use mathlib.Core.Path.{_≡_};
 ghost use Rattle.list_rows.specs.Table.{tab};
-ghost use Rattle.list_unchecked.specs.Bare.{machine};
+ghost use Rattle.list_unchecked.specs.Unchecked.{machine};
 ghost use Rattle.list.specs.Run.{calls, moves};
 ghost use Rattle.list.specs.Answers.{stepIs};
 ghost use Rattle.field.specs.Field.{loadOf};

@@ -12,8 +12,8 @@ use Rattle.refusal.proofs.Laws.{change-past, leaves-changed}
 use Rattle.refusal.specs.declared.Refusal.{Refusal}
 use Rattle.columns.specs.Column.{zeros}
 use Rattle.list_party.specs.declared.Party.{Party}
-use Rattle.list_moves.specs.declared.Said.{Said}
-use Rattle.list_unchecked.specs.Bare.{Machine, partyOf}
+use Rattle.calls.specs.declared.Said.{Said}
+use Rattle.list_unchecked.specs.Unchecked.{Machine, partyOf}
 use Rattle.list.specs.Engine.{liveKeys, listTests, placesWith, listOf}
 use Rattle.list.specs.declared.Listed.{Listed}
 use Rattle.list.specs.declared.Listed.the-variants.{Keys, Refused}

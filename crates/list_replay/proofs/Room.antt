@@ -7,9 +7,9 @@ use native.Mathlib.Omega.{arith}
 use lib.ListN.{length, length-append}
 use lib.Dec.{ltb}
 use borrow.Author.Tests.{ltb-false}
-use Rattle.list_unchecked.specs.Bare.{Machine, partyOf}
+use Rattle.list_unchecked.specs.Unchecked.{Machine, partyOf}
 use Rattle.list.specs.Engine.{liveKeys}
-use Rattle.list.specs.Run.{turnOf, fresh}
+use Rattle.list.specs.Run.{eventOf, fresh}
 use Rattle.logic.specs.Quoted.{bytes}
 use Rattle.page.proofs.Room.{room}
 use Rattle.report.specs.Lines.{badLine}
@@ -28,15 +28,15 @@ use Rattle.list_replay.proofs.Judged.{good-run}
 -- ---- all lines
 
 answers-short : (order : ℕ) (m : Machine) (seen : ℕ) (lines : List Line) → length
-    (saysFrom turnOf order m seen lines) ≤ 62 * length lines
+    (saysFrom eventOf order m seen lines) ≤ 62 * length lines
 unfolding saysFrom lineSays
 answers-short order m seen [] = omega arith
 answers-short order m seen (line ∷ rest) =
     simp length-append
     (omega (
       arith,
-      said-short (seen + 4) (partyIn line) (partyOf m (partyIn line) .place) (lineTurn turnOf order m line .answer),
-      answers-short order (lineTurn turnOf order m line .memory) (seen + 1) rest,
+      said-short (seen + 4) (partyIn line) (partyOf m (partyIn line) .place) (lineTurn eventOf order m line .answer),
+      answers-short order (lineTurn eventOf order m line .memory) (seen + 1) rest,
     ))
 
 body-short : (text : List ℕ) (at left : ℕ) → length (bodyFrom text at left) ≤ left
@@ -67,7 +67,7 @@ module _ (text : List ℕ) (short : length text ≤ 65536) where
       let lines = bodyOf text head in
       let answers = answers-short (head .order) m 0 lines in
       let few = body-short text (head .next) (length text / 6) in
-      let last = closing-short (lastOf turnOf (head .order) m lines) (good-run text short good .sound) in
+      let last = closing-short (lastOf eventOf (head .order) m lines) (good-run text short good .sound) in
       simp length-append (omega (arith, short, answers, few, last))
   judged-short (suc line) bad = bad-short (suc line)
 

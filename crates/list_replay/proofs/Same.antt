@@ -13,12 +13,12 @@ use borrow.Author.Tests.{lt-ltb}
 use Rattle.refusal.specs.Answer.{Answer, accepted, refused, left}
 use Rattle.refusal.proofs.Laws.{answer-past}
 use Rattle.columns.specs.Column.{zeros}
-use Rattle.list_unchecked.specs.Bare.{Machine}
+use Rattle.list_unchecked.specs.Unchecked.{Machine}
 use Rattle.field.specs.Field.{fieldTests, fieldAt, orderOf, loadOf}
 use Rattle.field.specs.Layout.{Bytes}
 use Rattle.field.proofs.Numbers.{number-below-power}
 use Rattle.list.specs.Engine.{liveKeys}
-use Rattle.list.specs.Run.{calls, moves, turnOf}
+use Rattle.list.specs.Run.{calls, moves, eventOf}
 use Rattle.report.specs.Lines.{keyLines, tallyLines}
 use Rattle.text.specs.Reading.{lost}
 use Rattle.text.proofs.Bytes.{field-is-bytes}
@@ -86,12 +86,12 @@ key-small c order key all e =
 
 -- a line's turn is the checked one, and leaves a list that is sound again
 pub record SameTurn (order : ℕ) (m : Machine) (line : Line) : Type 0 where
-  pub path : lineTurn plainTurn order m line ≡ lineTurn turnOf order m line
-  pub sound : Sound (lineTurn turnOf order m line .memory)
+  pub path : lineTurn plainTurn order m line ≡ lineTurn eventOf order m line
+  pub sound : Sound (lineTurn eventOf order m line .memory)
 
 call-same : (order : ℕ) (m : Machine) (c : CallLine) (answer : Answer ℕ) → loadOf (fieldIn c) 0 order ≡ answer → Sound m → Bytes
     (fieldIn c) →
-    (loaded plainTurn m c answer ≡ loaded turnOf m c answer) × Sound (loaded turnOf m c answer .memory)
+    (loaded plainTurn m c answer ≡ loaded eventOf m c answer) × Sound (loaded eventOf m c answer .memory)
 unfolding loaded
 call-same order m c (accepted key) e s all =
     (plain-turn m s (calls (c .party) (c .code) key), sound-turn m (calls (c .party) (c .code) key) s (key-small c order key all e))
@@ -108,18 +108,18 @@ turn-same order m Bad s fits = record { path = refl; sound = s }
 -- ---- all lines
 
 pub record SameRun (order : ℕ) (m : Machine) (seen : ℕ) (lines : List Line) : Type 0 where
-  pub answers : saysFrom plainTurn order m seen lines ≡ saysFrom turnOf order m seen lines
-  pub last : lastOf plainTurn order m lines ≡ lastOf turnOf order m lines
-  pub sound : Sound (lastOf turnOf order m lines)
+  pub answers : saysFrom plainTurn order m seen lines ≡ saysFrom eventOf order m seen lines
+  pub last : lastOf plainTurn order m lines ≡ lastOf eventOf order m lines
+  pub sound : Sound (lastOf eventOf order m lines)
 
 pub run-same : (order : ℕ) (m : Machine) (seen : ℕ) (lines : List Line) → Sound m → AllFit lines → SameRun order m seen lines
 unfolding saysFrom lastOf lineSays AllFit
 run-same order m seen [] s fits = record { answers = refl; last = refl; sound = s }
 run-same order m seen (line ∷ rest) s fits =
     let one = turn-same order m line s (fits .0) in
-    let all = run-same order (lineTurn turnOf order m line .memory) (seen + 1) rest (one .sound) (fits .1) in
+    let all = run-same order (lineTurn eventOf order m line .memory) (seen + 1) rest (one .sound) (fits .1) in
     record {
-      answers = rw (one .path) (ap (λ (l : List ℕ). lineSays turnOf order m (seen + 4) line ++ l) (all .answers));
+      answers = rw (one .path) (ap (λ (l : List ℕ). lineSays eventOf order m (seen + 4) line ++ l) (all .answers));
       last = rw (one .path) (all .last);
       sound = all .sound;
     }
@@ -140,4 +140,4 @@ pub played-same : (order : ℕ) (m : Machine) (seen : ℕ) (lines : List Line) �
     played plain order m seen lines ≡ played checked order m seen lines
 played-same order m seen lines run =
     rw (run .answers, run .last)
-    (ap (λ (l : List ℕ). saysFrom turnOf order m seen lines ++ l) (closing-same (lastOf turnOf order m lines) (run .sound)))
+    (ap (λ (l : List ℕ). saysFrom eventOf order m seen lines ++ l) (closing-same (lastOf eventOf order m lines) (run .sound)))

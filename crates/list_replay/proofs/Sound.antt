@@ -11,12 +11,12 @@ use borrow.Author.Tests.{le-ltb}
 use Rattle.refusal.specs.Answer.{accepted, left, passed, refusing, leaving}
 use Rattle.logic.proofs.Tests.{and-left, and-right, and-both}
 use Rattle.list_rows.specs.Table.{Table}
-use Rattle.list_unchecked.specs.Bare.{Machine}
+use Rattle.list_unchecked.specs.Unchecked.{Machine}
 use Rattle.list_form.specs.Form.{goodForm}
 use Rattle.list_form.proofs.Good.{good}
 use Rattle.list_chain.specs.Chain.{withKey, isLive, behind, liveFrom}
 use Rattle.list.specs.Engine.{badTable, setUpOf, liveKeys, placesWith, listOf}
-use Rattle.list.specs.Run.{Event, turnOf, run}
+use Rattle.list.specs.Run.{Event, eventOf, run}
 use Rattle.list.proofs.Laws.{table-fits}
 use Rattle.list_grown.specs.History.{History, keyFits, keysFit, heeded, start, Grows, grown}
 use Rattle.list_grown.proofs.Heeded.{all-heeded}
@@ -37,10 +37,10 @@ pub record Sound (m : Machine) : Type 0 where
 
 -- ---- one event more
 
-run-more : (m : Machine) (history : History) (event : Event) → run m (history ++ (event ∷ [])) ≡ turnOf (run m history) event .memory
+run-more : (m : Machine) (history : History) (event : Event) → run m (history ++ (event ∷ [])) ≡ eventOf (run m history) event .memory
 unfolding run
 run-more m [] event = refl
-run-more m (first ∷ rest) event = run-more (turnOf m first .memory) rest event
+run-more m (first ∷ rest) event = run-more (eventOf m first .memory) rest event
 
 fit-more : (history : History) (event : Event) → keysFit history ≡ true → keyFits event ≡ true → keysFit (history ++ (event ∷ [])) ≡ true
 unfolding keysFit
@@ -48,7 +48,7 @@ fit-more [] event h e = rw e
 fit-more (first ∷ rest) event h e =
     and-both (and-left (keyFits first) (keysFit rest) h) (fit-more rest event (and-right (keyFits first) (keysFit rest) h) e)
 
-pub sound-turn : (m : Machine) (event : Event) → Sound m → keyFits event ≡ true → Sound (turnOf m event .memory)
+pub sound-turn : (m : Machine) (event : Event) → Sound m → keyFits event ≡ true → Sound (eventOf m event .memory)
 sound-turn m event s e =
     record {
       table = s .table;
@@ -56,7 +56,7 @@ sound-turn m event s e =
       history = s .history ++ (event ∷ []);
       set = s .set;
       fit = fit-more (s .history) event (s .fit) e;
-      path = ap (λ (x : Machine). turnOf x event .memory) (s .path) ∙ sym (run-more (start (s .table) (s .parties)) (s .history) event);
+      path = ap (λ (x : Machine). eventOf x event .memory) (s .path) ∙ sym (run-more (start (s .table) (s .parties)) (s .history) event);
     }
 
 -- ---- what is known of grown lists
@@ -78,7 +78,7 @@ module _ (m : Machine) (s : Sound m) where
   pub sound-fits : badTable (m .table) ≡ false
   sound-fits = rw is-grown (kept (s .table) (s .parties) heard grows .1)
 
-  pub plain-turn : (event : Event) → plainTurn m event ≡ turnOf m event
+  pub plain-turn : (event : Event) → plainTurn m event ≡ eventOf m event
   plain-turn event = plain-is-checked m event sound-fits sound-form
 
 -- ---- the listing

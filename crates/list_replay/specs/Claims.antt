@@ -4,9 +4,9 @@ use mathlib.Core.List.{List, _++_}
 use Prim.Native.Nat.{ℕ, _≤_}
 use lib.ListN.{length, drop}
 use Rattle.refusal.specs.Answer.{accepted, left}
-use Rattle.list_unchecked.specs.Bare.{Machine}
+use Rattle.list_unchecked.specs.Unchecked.{Machine}
 use Rattle.list.specs.Engine.{liveKeys, placesWith, listOf}
-use Rattle.list.specs.Run.{turnOf, fresh}
+use Rattle.list.specs.Run.{eventOf, fresh}
 use Rattle.page.specs.Page.{Page, page, Wrote}
 use Rattle.script.specs.Head.{headOf}
 use Rattle.script.specs.Body.{bodyOf, firstBad}
@@ -18,7 +18,7 @@ SameOutput = (text : List ℕ) → outputBy plain text ≡ outputOf text
 
 -- the list at the end of a good text
 abbrev pub endOf : List ℕ → Machine
-endOf text = lastOf turnOf (headOf text .order) (fresh (headOf text .nodes) (headOf text .parties)) (bodyOf text (headOf text))
+endOf text = lastOf eventOf (headOf text .order) (fresh (headOf text .nodes) (headOf text .parties)) (bodyOf text (headOf text))
 
 -- at the end of a good text a listing into 4,096 places is not refused, and lists the live keys
 abbrev pub ListingStands : Type 0

@@ -6,9 +6,9 @@ use lib.ListN.{length, take}
 use lib.Dec.{ltb}
 use Rattle.refusal.specs.Answer.{Answer, accepted, refused, Left}
 use Rattle.columns.specs.Column.{zeros}
-use Rattle.list_unchecked.specs.Bare.{Machine, partyOf}
+use Rattle.list_unchecked.specs.Unchecked.{Machine, partyOf}
 use Rattle.list.specs.Engine.{liveKeys, listOf}
-use Rattle.list.specs.Run.{turnOf, fresh}
+use Rattle.list.specs.Run.{eventOf, fresh}
 use Rattle.report.specs.Lines.{saidBy, keyLines, tallyLines, badLine}
 use Rattle.script.specs.declared.Head.{Head}
 use Rattle.script.specs.declared.Line.{Line}
@@ -24,7 +24,7 @@ pub record Engine : Type 0 where
 
 -- the engine of document 01: calls and moves with all their tests, and the live keys
 abbrev pub checked : Engine
-checked = record { turn = turnOf; keys = liveKeys }
+checked = record { turn = eventOf; keys = liveKeys }
 
 -- what a listing has put into its places
 abbrev pub keysIn : (places : List ℕ) → Answer ℕ → List ℕ

@@ -3,6 +3,8 @@ use mathlib.Core.List.{List}
 use mathlib.Core.Bool.{Bool}
 use Prim.Native.Nat.{ℕ}
 use lib.Dec.{eqb}
+use denote.Ref.{RefT, now}
+use denote.Triple.Both.{Both}
 use Rattle.columns.specs.Column.{at, put}
 
 pub record Table : Type 0 where
@@ -13,6 +15,33 @@ pub record Table : Type 0 where
 
 abbrev pub tab : List ℕ → List ℕ → List ℕ → List ℕ → Table
 tab kind key next back = record { kind = kind; key = key; next = next; back = back }
+
+-- ---- four lent columns as a table
+
+-- a lent column in a contract: as it came, and as it is left
+abbrev pub Column : Type 0
+Column = Both (RefT (List ℕ)) (RefT (List ℕ))
+
+abbrev pub before : (kind key next back : Column) → Table
+before kind key next back = tab (now (kind .entry)) (now (key .entry)) (now (next .entry)) (now (back .entry))
+
+abbrev pub after : (kind key next back : Column) → Table
+after kind key next back = tab (now (kind .exit)) (now (key .exit)) (now (next .exit)) (now (back .exit))
+
+-- ---- the end rows by their fixed numbers
+
+abbrev pub head : ℕ
+head = 0
+
+abbrev pub headNxt : ℕ
+headNxt = 1
+
+abbrev pub tail : ℕ
+tail = 2
+
+-- its own number stands for none
+abbrev pub tailNxt : ℕ
+tailNxt = 3
 
 -- ---- reads
 
@@ -43,4 +72,5 @@ link t row to = tab (t .kind) (t .key) (put (t .next) row to) (t .back)
 
 -- all four entries of a row
 abbrev pub withRow : Table → (row kind key next back : ℕ) → Table
-withRow t row kind key next back = tab (put (t .kind) row kind) (put (t .key) row key) (put (t .next) row next) (put (t .back) row back)
+withRow t row kind key next back =
+    tab (put (t .kind) row kind) (put (t .key) row key) (put (t .next) row next) (put (t .back) row back)

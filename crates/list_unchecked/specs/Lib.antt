@@ -1,2 +1,2 @@
--- What the bare call and the bare move are.
-pub mod Bare
+-- What a call and a move are, without any test.
+pub mod Unchecked

@@ -1,17 +1,32 @@
-// The bare call and the bare move: no test and no refusal. They serve programs that start from set-up, and the entry points of `list`.
+// A call and a move without any test. They refuse nothing: they serve the entry points of `list`, which test first,
+// and programs that start from a set-up of their own.
+use calls::Call;
+use calls::Said;
 use list_moves::Moved;
-use list_moves::Said;
 use list_moves::place_move;
-use list_party::Call;
 use list_party::Party;
+use list_party::Place;
 use list_party::State;
+use list_party::Values;
 use list_party::one_taken;
 use list_rows::Row;
 use list_rows::Write;
 use list_rows::apply;
 ghost use mathlib.Core.Path.{_≡_};
-ghost use Rattle.list_rows.specs.Table.{tab};
-ghost use Rattle.list_unchecked.specs.Bare.{machine, ownRow, takenThen, startOf, begunOf, bareCallOf, bareDone, settled, bareMoveOf};
+ghost use Rattle.calls.specs.declared.Call.the-variants.{Contains};
+ghost use Rattle.list_rows.specs.Table.{before, after};
+ghost use Rattle.list_unchecked.specs.Unchecked.{
+  machine,
+  ownRow,
+  takenThen,
+  starting,
+  startOf,
+  begunOf,
+  uncheckedCall,
+  made,
+  settled,
+  uncheckedMove,
+};
 
 // What a call comes to: the party after it, what is written, how many rows are then taken.
 struct Begun {
@@ -48,6 +63,22 @@ fn taken_then(state: State, party: Party) -> u16
     }
 }
 
+// An ADD or a REMOVE at its start, between rows 0 and 1, with its own row.
+fn starting(call: Call, wanted: u32, own: u16) -> Party
+    ensures { λ r. ⌜ r ≡ starting call wanted own ⌝ }
+{
+    Party {
+        place: Place::Walk(call, wanted),
+        p: Row::HEAD.0,
+        n: Row::HEAD_NXT.0,
+        c: Row::HEAD_NXT.0,
+        s: 0,
+        r: 0,
+        own,
+        unpublished: true,
+    }
+}
+
 // An ADD or a REMOVE starts.
 fn start(state: State, party: Party, call: Call, wanted: u32) -> Begun
     ensures { λ r. ⌜ r ≡ startOf state party call wanted ⌝ }
@@ -55,9 +86,27 @@ fn start(state: State, party: Party, call: Call, wanted: u32) -> Begun
     let own = own_row(state, party);
     let taken = taken_then(state, party);
     Begun {
-        party: Party::starting(call, wanted, own),
+        party: starting(call, wanted, own),
         write: Write::Item(own, wanted),
         taken,
+    }
+}
+
+// A CONTAINS starts, and takes no row.
+fn look(state: State, party: Party, wanted: u32) -> Begun
+    ensures { λ r. ⌜ r ≡ begunOf state party Contains wanted ⌝ }
+{
+    let first = Values {
+        p: 0,
+        n: 0,
+        c: Row::HEAD_NXT.0,
+        s: 0,
+        r: 0,
+    };
+    Begun {
+        party: party.goes_to(Place::Look(Call::Contains, wanted), first),
+        write: Write::Untouched,
+        taken: state.taken,
     }
 }
 
@@ -68,15 +117,11 @@ fn begin(state: State, party: Party, call: Call, wanted: u32) -> Begun
     match call {
         Call::Add => start(state, party, Call::Add, wanted),
         Call::Remove => start(state, party, Call::Remove, wanted),
-        Call::Contains => Begun {
-            party: party.looking(Call::Contains, wanted, Row::HEAD_NXT),
-            write: Write::Keep,
-            taken: state.taken,
-        },
+        Call::Contains => look(state, party, wanted),
     }
 }
 
-// Starts a call of a party.
+// Starts a call of a party. Refuses nothing.
 pub fn call(
     kind: &mut [u8],
     key: &mut [u32],
@@ -87,7 +132,8 @@ pub fn call(
     call: Call,
     wanted: u32,
 ) -> State
-    ensures { λ r. ⌜ machine (tab (now (kind .exit)) (now (key .exit)) (now (next .exit)) (now (back .exit))) r ≡ bareCallOf (machine (tab (now (kind .entry)) (now (key .entry)) (now (next .entry)) (now (back .entry))) state) number call wanted ⌝ }
+    ensures { λ r. ⌜ machine (after kind key next back) r
+        ≡ uncheckedCall (machine (before kind key next back) state) number call wanted ⌝ }
 {
     let begun = begin(state, state.party_at(number), call, wanted);
     let write = begun.write;
@@ -105,7 +151,7 @@ fn settle(state: State, number: u32, moved: Moved) -> State
     state.with_party(number, party).tallied(access)
 }
 
-// Makes one move of a party; of an idle one, none.
+// Makes one move of a party; of an idle one, none. Refuses nothing.
 pub fn step(
     kind: &mut [u8],
     key: &mut [u32],
@@ -114,7 +160,8 @@ pub fn step(
     state: State,
     number: u32,
 ) -> Done
-    ensures { λ r. ⌜ bareDone (machine (tab (now (kind .exit)) (now (key .exit)) (now (next .exit)) (now (back .exit))) (r .state)) (r .said) ≡ bareMoveOf (machine (tab (now (kind .entry)) (now (key .entry)) (now (next .entry)) (now (back .entry))) state) number ⌝ }
+    ensures { λ r. ⌜ made (machine (after kind key next back) (r .state)) (r .said)
+        ≡ uncheckedMove (machine (before kind key next back) state) number ⌝ }
 {
     let moved = place_move(kind, key, next, back, state.party_at(number));
     let write = moved.write;

@@ -14,12 +14,13 @@ use Rattle.refusal.specs.Number.{numberOf}
 use Rattle.refusal.specs.Answer.{accepted, refused, Left, left, Tests, verdictIs}
 use Rattle.list_rows.specs.Table.{Table, tab}
 use Rattle.list_party.specs.declared.State.{State}
-use Rattle.list_unchecked.specs.Bare.{Machine, machine}
-use Rattle.list_moves.specs.declared.Said.{Said}
+use Rattle.list_unchecked.specs.Unchecked.{Machine, machine}
+use Rattle.calls.specs.declared.Said.{Said}
 use Rattle.list.specs.declared.After.{After}
 use Rattle.list.specs.declared.Stepped.{Stepped}
 use Rattle.list.specs.declared.Listed.{Listed}
-use Rattle.list.specs.Answers.{afterIs, replyIs, stepIs, listedIs}
+use Rattle.list.specs.Answers.{afterIs, stepIs, listedIs}
+use Rattle.calls.specs.Words.{replyIs}
 use Rattle.list.specs.Engine.{setUpOf, callOf, moveOf, listOf}
 use Rattle.list.proofs.Promises.{refused-set-up-leaves}
 use Rattle.probe_layout.specs.declared.Question.{Question}

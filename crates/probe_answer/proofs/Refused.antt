@@ -6,7 +6,7 @@ use Prim.Native.Nat.{ℕ, zero, suc}
 use native.Mathlib.Omega.{arith}
 use Rattle.refusal.specs.Answer.{Answer, accepted, refused, Tests}
 use Rattle.field.specs.Layout.{bytesIn}
-use Rattle.list_unchecked.specs.Bare.{Machine}
+use Rattle.list_unchecked.specs.Unchecked.{Machine}
 use Rattle.list.specs.Engine.{setUpOf, callOf, moveOf, listOf}
 use Rattle.list.proofs.Promises.{refused-call-leaves, refused-move-leaves, refused-listing-leaves}
 use Rattle.probe_layout.specs.Bytes.{lows}

@@ -11,18 +11,19 @@ use borrow.Author.Tests.{ltb-false}
 use Rattle.refusal.specs.Answer.{accepted, refused, Left, left, Tests, passed, refusing, leaving}
 use Rattle.refusal.proofs.Laws.{past-test}
 use Rattle.list_rows.specs.declared.Write.{Write}
-use Rattle.list_rows.specs.declared.Write.the-variants.{Keep, Link, Splice, Item}
+use Rattle.list_rows.specs.declared.Write.the-variants.{Untouched, Link, Splice, Item}
 use Rattle.list_rows.specs.Table.{Table}
 use Rattle.list_rows.specs.Writes.{written}
-use Rattle.list_party.specs.declared.Access.{Access}
-use Rattle.list_party.specs.declared.Access.the-variants.{None, Read, Won, Lost}
+use Rattle.calls.specs.declared.Access.{Access}
+use Rattle.calls.specs.declared.Access.the-variants.{None, Read, Won, Lost}
 use Rattle.list_party.specs.declared.State.{State}
-use Rattle.list_party.specs.Party.{tallied}
+use Rattle.list_party.specs.State.{tallied, restingState}
 use Rattle.list_moves.specs.Moves.{placeOf}
-use Rattle.list_unchecked.specs.Bare.{Machine, machine, partyOf, begunOf, bareCallOf, bareMoveOf}
+use Rattle.list_unchecked.specs.Unchecked.{Machine, machine, partyOf, begunOf, uncheckedCall, uncheckedMove}
 use Rattle.list_form.specs.Form.{rowsIn}
-use Rattle.list_fresh.specs.Fresh.{freshTable, restingState}
-use Rattle.list.specs.Engine.{setUpTests, setUpOf, callNamed, callTests, callOf, moveTests, moveOf, accepting, chainRises, liveKeys, listTests, placesWith, listOf}
+use Rattle.list_fresh.specs.Fresh.{freshTable}
+use Rattle.list.specs.Engine.{setUpTests, setUpOf, callTests, callOf, moveTests, moveOf, accepting, chainRises, liveKeys, listTests, placesWith, listOf}
+use Rattle.calls.specs.Calls.{callNamed}
 use Rattle.list.proofs.Laws.{past-form, table-fits, past-set-up}
 use Rattle.probe_layout.specs.Bytes.{low, byteAt, twoAt, fourAt}
 use Rattle.probe_layout.specs.Records.{recordAt}
@@ -49,7 +50,7 @@ same m = record { kinds = refl; keys = refl; nexts = refl; backs = refl; parties
 
 written-alike : (write : Write) (t : Table) (st st′ : State) → length (st′ .parties) ≡ length (st .parties) →
     Alike (machine t st) (machine (written write t) st′)
-written-alike Keep t st st′ parties = record { kinds = refl; keys = refl; nexts = refl; backs = refl; parties = parties }
+written-alike Untouched t st st′ parties = record { kinds = refl; keys = refl; nexts = refl; backs = refl; parties = parties }
 written-alike (Link row to) t st st′ parties =
     record { kinds = refl; keys = refl; nexts = length-set (t .next) row to; backs = refl; parties = parties }
 written-alike (Splice row to from) t st st′ parties = record {
@@ -73,14 +74,14 @@ tallied-parties Read st = refl
 tallied-parties Won st = refl
 tallied-parties Lost st = refl
 
-call-alike : (m : Machine) (party code key : ℕ) → Alike m (bareCallOf m party (callNamed code) key)
-unfolding bareCallOf
+call-alike : (m : Machine) (party code key : ℕ) → Alike m (uncheckedCall m party (callNamed code) key)
+unfolding uncheckedCall
 call-alike m party code key =
     let begun = begunOf (m .state) (partyOf m party) (callNamed code) key in
     written-alike (begun .write) (m .table) (m .state) _ (length-set (m .state .parties) party (begun .party))
 
-move-alike : (m : Machine) (party : ℕ) → Alike m (bareMoveOf m party .after)
-unfolding bareMoveOf
+move-alike : (m : Machine) (party : ℕ) → Alike m (uncheckedMove m party .after)
+unfolding uncheckedMove
 move-alike m party =
     let made = placeOf (partyOf m party .place) (m .table) (partyOf m party) in
     written-alike (made .write) (m .table) (m .state) _
@@ -127,14 +128,14 @@ module _ (m : Machine) (places : List ℕ) (sixteen : length (m .state .parties)
   call-sized : (party code key : ℕ) → Sized m places (callShown places (callOf m party code key))
   unfolding callShown callOf
   call-sized party code key = record {
-    after = left-alike m (callTests m party code) (left (bareCallOf m party (callNamed code) key) passed) (λ passes. call-alike m party code key);
+    after = left-alike m (callTests m party code) (left (uncheckedCall m party (callNamed code) key) passed) (λ passes. call-alike m party code key);
     room = refl;
   }
 
   move-sized : (party : ℕ) → Sized m places (moveShown places (moveOf m party))
   unfolding moveShown moveOf
   move-sized party = record {
-    after = left-alike m (moveTests m party) (accepting (bareMoveOf m party)) (λ passes. move-alike m party);
+    after = left-alike m (moveTests m party) (accepting (uncheckedMove m party)) (λ passes. move-alike m party);
     room = refl;
   }
 

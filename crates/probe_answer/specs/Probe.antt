@@ -6,10 +6,10 @@ use mathlib.Core.Bool.{cond}
 use Prim.Native.Nat.{ℕ, zero, suc}
 use lib.ListN.{replicate}
 use Rattle.refusal.specs.Answer.{Answer, accepted, refused, Left, Tests}
-use Rattle.list_moves.specs.declared.Said.{Said}
-use Rattle.list_moves.specs.declared.Said.the-variants.{Nothing, Yes, No}
+use Rattle.calls.specs.declared.Said.{Said}
+use Rattle.calls.specs.declared.Said.the-variants.{Nothing, Yes, No}
 use Rattle.list_rows.specs.Table.{Table}
-use Rattle.list_unchecked.specs.Bare.{Machine, machine}
+use Rattle.list_unchecked.specs.Unchecked.{Machine, machine}
 use Rattle.list.specs.Engine.{setUpOf, callOf, moveOf, listOf}
 use Rattle.probe_layout.specs.Bytes.{low, lows}
 use Rattle.probe_layout.specs.Layout.{whatIn, partyIn, codeIn, keyIn, placesIn, machineIn, fits, machineBytes}

@@ -1,13 +1,15 @@
 // The probe: one checked set-up, call, move or listing on any state, bytes in and bytes out.
 use list::After;
 use list::Listed;
-use list::Reply;
+use calls::Reply;
 use list::Stepped;
 use list::call;
 use list::listing;
 use list::set_up;
 use list::step;
-use list_moves::Said;
+use calls::Said;
+use list_party::State;
+use page::put_byte;
 use probe_layout::Question;
 use probe_layout::fits;
 use probe_layout::put_machine;
@@ -16,16 +18,15 @@ use probe_layout::put_u32s;
 use probe_layout::question_in;
 use probe_layout::read_table;
 use probe_layout::state_in;
-use page::put_byte;
-use list_party::State;
 use refusal::Verdict;
 ghost use mathlib.Core.Path.{_≡_};
 ghost use mathlib.Core.Bool.{true};
 ghost use Rattle.refusal.specs.Answer.{left, verdictIs};
 ghost use Rattle.list_rows.specs.Table.{tab};
 ghost use Rattle.page.specs.Page.{page, Wrote};
-ghost use Rattle.list_unchecked.specs.Bare.{machine};
-ghost use Rattle.list.specs.Answers.{afterIs, replyIs, stepIs, listedIs};
+ghost use Rattle.list_unchecked.specs.Unchecked.{machine};
+ghost use Rattle.list.specs.Answers.{afterIs, stepIs, listedIs};
+ghost use Rattle.calls.specs.Words.{replyIs};
 ghost use Rattle.probe_layout.specs.Layout.{placesIn, roomsFit, fits};
 ghost use Rattle.probe_answer.specs.Probe.{unwritten, saidIn, refusalIn, listedIn, setUpShown, callShown, moveShown, listShown, seenBy, seenIs, FoundSo, seenOf, seenBytes, probeOf};
 

@@ -13,10 +13,10 @@ use lib.ListN.{length, getD, set, drop, List·getD-eq-default}
 use lib.Seq.{drop-cons, drop-length}
 use Rattle.field.specs.Layout.{bytesIn, Bytes}
 use Rattle.list_rows.specs.Table.{Table, tab}
-use Rattle.list_party.specs.declared.Call.{Call}
+use Rattle.calls.specs.declared.Call.{Call}
 use Rattle.list_party.specs.declared.Place.{Place}
 use Rattle.list_party.specs.declared.Place.the-variants.{Look}
-use Rattle.list.specs.Engine.{callNamed}
+use Rattle.calls.specs.Calls.{callNamed}
 use Rattle.probe_layout.specs.Bytes.{byteAt, twoAt, fourAt, each, low, oneByOne, lows}
 use Rattle.probe_layout.specs.Records.{numbered, placed, recordAt}
 use Rattle.probe_layout.specs.Layout.{kindsIn, keysIn, nextsIn, tableIn}

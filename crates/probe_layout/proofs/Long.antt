@@ -12,7 +12,7 @@ use Rattle.list_party.specs.declared.Party.{Party}
 use Rattle.list_party.specs.declared.Place.{Place}
 use Rattle.list_party.specs.declared.Place.the-variants.{Idle, Walk, Skip, AddSwap, Mark, Reread, Clean, Back, Look}
 use Rattle.list_party.specs.declared.State.{State}
-use Rattle.list_unchecked.specs.Bare.{Machine}
+use Rattle.list_unchecked.specs.Unchecked.{Machine}
 use Rattle.probe_layout.specs.Bytes.{low, oneByOne}
 use Rattle.probe_layout.specs.Records.{placeBytes, recordBytes}
 use Rattle.probe_layout.specs.Layout.{stateBytes, machineBytes}
@@ -63,9 +63,9 @@ long-state st =
       arith,
       long-low 4 (st .count),
       long-low 4 (st .taken),
-      long-low 4 (st .moves),
-      long-low 4 (st .won),
-      long-low 4 (st .lost),
+      long-low 4 (st .tallies .moves),
+      long-low 4 (st .tallies .won),
+      long-low 4 (st .tallies .lost),
       long-row recordBytes 20 long-record (st .parties),
     ))
 

@@ -14,7 +14,7 @@ use borrow.Author.Tests.{leb-true, eqb-true}
 use Rattle.logic.proofs.Tests.{and-left, and-right}
 use Rattle.field.specs.Layout.{numberIn, bytesIn, Bytes}
 use Rattle.field.specs.Field.{fieldAt}
-use Rattle.list.specs.Engine.{callNamed}
+use Rattle.calls.specs.Calls.{callNamed}
 use Rattle.probe_layout.specs.Bytes.{byteAt, twoAt, fourAt, each, low, oneByOne}
 use Rattle.probe_layout.specs.Records.{callNumber, placed, placeBytes, recordAt, recordFits, recordBytes}
 use Rattle.probe_layout.specs.Layout.{kindsIn, keysIn, nextsIn, backsIn, keysFrom, nextsFrom, backsFrom, endOf, tableIn, stateIn, machineIn, stateBytes, machineBytes}

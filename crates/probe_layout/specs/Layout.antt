@@ -7,7 +7,7 @@ use lib.Dec.{eqb, ltb, leb}
 use Rattle.logic.specs.Every.{every}
 use Rattle.list_rows.specs.Table.{Table, tab}
 use Rattle.list_party.specs.declared.State.{State}
-use Rattle.list_unchecked.specs.Bare.{Machine, machine}
+use Rattle.list_unchecked.specs.Unchecked.{Machine, machine}
 use Rattle.probe_layout.specs.declared.Question.{Question}
 use Rattle.probe_layout.specs.Bytes.{byteAt, twoAt, fourAt, each, low, lows}
 use Rattle.probe_layout.specs.Records.{recordAt, recordFits, recordsBytes}
@@ -120,7 +120,7 @@ fits bytes =
 
 unfoldable pub stateBytes : State → List ℕ
 stateBytes st =
-    low 4 (st .count) ++ low 4 (st .taken) ++ low 4 (st .moves) ++ low 4 (st .won) ++ low 4 (st .lost) ++ recordsBytes (st .parties)
+    low 4 (st .count) ++ low 4 (st .taken) ++ low 4 (st .tallies .moves) ++ low 4 (st .tallies .won) ++ low 4 (st .tallies .lost) ++ recordsBytes (st .parties)
 
 unfoldable pub machineBytes : Machine → List ℕ
 machineBytes m =

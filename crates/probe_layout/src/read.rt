@@ -1,5 +1,5 @@
 // What is read from a question: numbers, party records, columns, and whether all of it fits the layout.
-use list_party::Call;
+use calls::Call;
 use list_party::Party;
 use list_party::Place;
 use list_party::State;

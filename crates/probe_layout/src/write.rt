@@ -1,16 +1,16 @@
 // What is written to the output: numbers, party records, columns.
-use page::put;
-use page::put_byte;
-use list_party::Call;
+use calls::Call;
 use list_party::Party;
 use list_party::Place;
 use list_party::State;
+use page::put;
+use page::put_byte;
 ghost use mathlib.Core.Path.{_≡_};
 ghost use mathlib.Core.Bool.{cond};
 ghost use mathlib.Core.List.{[], _∷_};
 ghost use Rattle.list_rows.specs.Table.{tab};
 ghost use Rattle.page.specs.Page.{page, Wrote};
-ghost use Rattle.list_unchecked.specs.Bare.{machine};
+ghost use Rattle.list_unchecked.specs.Unchecked.{machine};
 ghost use Rattle.probe_layout.specs.Bytes.{low, lows};
 ghost use Rattle.probe_layout.specs.Records.{spelledBytes, callNumber, placeBytes, recordBytes, recordsBytes};
 ghost use Rattle.probe_layout.specs.Layout.{stateBytes, machineBytes};

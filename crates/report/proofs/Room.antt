@@ -5,12 +5,12 @@ use Prim.Native.Nat.{ℕ, _+_, _*_, _≤_}
 use native.Mathlib.Omega.{arith}
 use lib.ListN.{length, length-append}
 use Rattle.refusal.specs.Answer.{Answer, accepted, refused}
-use Rattle.list_party.specs.declared.Call.{Call}
-use Rattle.list_party.specs.declared.Call.the-variants.{Add, Remove, Contains}
+use Rattle.calls.specs.declared.Call.{Call}
+use Rattle.calls.specs.declared.Call.the-variants.{Add, Remove, Contains}
 use Rattle.list_party.specs.declared.Place.{Place}
 use Rattle.list_party.specs.declared.State.{State}
-use Rattle.list_moves.specs.declared.Said.{Said}
-use Rattle.list_moves.specs.declared.Said.the-variants.{Nothing, Yes, No}
+use Rattle.calls.specs.declared.Said.{Said}
+use Rattle.calls.specs.declared.Said.the-variants.{Nothing, Yes, No}
 use Rattle.logic.specs.Quoted.{bytes}
 use Rattle.page.proofs.Room.{digits-are-few}
 use Rattle.report.specs.declared.Asked.{Asked}
@@ -62,4 +62,4 @@ pub tallies-short : (st : State) → length (tallyLines st) ≤ 105
 unfolding tallyLines
 tallies-short st =
     simp length-append
-    (omega (arith, number-short (bytes "moves=") (st .moves), number-short (bytes "won=") (st .won), number-short (bytes "lost=") (st .lost), number-short (bytes "taken=") (st .taken)))
+    (omega (arith, number-short (bytes "moves=") (st .tallies .moves), number-short (bytes "won=") (st .tallies .won), number-short (bytes "lost=") (st .tallies .lost), number-short (bytes "taken=") (st .taken)))

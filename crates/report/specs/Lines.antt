@@ -4,13 +4,13 @@ use Prim.Native.Nat.{ℕ}
 use Rattle.logic.specs.Quoted.{bytes}
 use Rattle.page.specs.Page.{decimal}
 use Rattle.refusal.specs.Answer.{Answer, accepted, refused}
-use Rattle.list_party.specs.declared.Call.{Call}
-use Rattle.list_party.specs.declared.Call.the-variants.{Add, Remove, Contains}
+use Rattle.calls.specs.declared.Call.{Call}
+use Rattle.calls.specs.declared.Call.the-variants.{Add, Remove, Contains}
 use Rattle.list_party.specs.declared.Place.{Place}
 use Rattle.list_party.specs.declared.Place.the-variants.{Idle, Walk, Skip, AddSwap, Mark, Reread, Clean, Back, Look}
 use Rattle.list_party.specs.declared.State.{State}
-use Rattle.list_moves.specs.declared.Said.{Said}
-use Rattle.list_moves.specs.declared.Said.the-variants.{Nothing, Yes, No}
+use Rattle.calls.specs.declared.Said.{Said}
+use Rattle.calls.specs.declared.Said.the-variants.{Nothing, Yes, No}
 use Rattle.report.specs.declared.Asked.{Asked}
 
 -- ---- answers and refusals
@@ -73,7 +73,7 @@ keyLines (key ∷ rest) = keyLine key ++ keyLines rest
 
 unfoldable pub tallyLines : State → List ℕ
 tallyLines st =
-    numberLine (bytes "moves=") (st .moves) ++ numberLine (bytes "won=") (st .won) ++ numberLine (bytes "lost=") (st .lost)
+    numberLine (bytes "moves=") (st .tallies .moves) ++ numberLine (bytes "won=") (st .tallies .won) ++ numberLine (bytes "lost=") (st .tallies .lost)
     ++ numberLine (bytes "taken=") (st .taken)
 
 -- ---- a text that breaks the rules

@@ -1,14 +1,14 @@
 // The lines of a schedule's output: answers and refusals, then keys and tallies; or the bad line.
-use list::Reply;
-use list_moves::Said;
-use page::put;
-use page::put_number;
-use list_party::Call;
+use calls::Reply;
+use calls::Said;
+use calls::Call;
 use list_party::Place;
 use list_party::State;
+use page::put;
+use page::put_number;
 ghost use mathlib.Core.Path.{_≡_};
 ghost use Rattle.page.specs.Page.{page, Wrote};
-ghost use Rattle.list.specs.Answers.{replyIs};
+ghost use Rattle.calls.specs.Words.{replyIs};
 ghost use Rattle.report.specs.Lines.{askedAt, callName, askedText, answerLine, refusedLine, heard, saidBy, numberLine, keyLine, keyLines, tallyLines, badLine};
 
 // What a party was asked: the call and the key.

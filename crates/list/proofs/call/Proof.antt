@@ -1,4 +1,4 @@
--- `call` is the bare call where its tests pass.
+-- `call` is the unchecked call where its tests pass.
 -- Assumes nothing.
 use Rattle.list.proofs.Laws.{call-accepts, call-refuses}
 use borrow.Author.Needs.{needs}
@@ -17,7 +17,7 @@ accepted c =
     (c21 .call-asks .ensures)
     (c16 .form-verdict .ensures)
     (c14 .enum-told .given .1)
-    (c9 .call-named .ensures)
+    (c9 .named .ensures)
     (c8 .call .ensures)
 
 refused : tie.Need-returns-2

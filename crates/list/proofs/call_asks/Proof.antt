@@ -35,7 +35,7 @@ full c =
       ← c .before .before .before .before .before .is-idle .ensures,
       c .before .before .before .before .if2 .left,
       le-ltb _ _ (c .before .before .before .if3 .left),
-      ← c .before .before .call-named .ensures,
+      ← c .before .before .named .ensures,
       ← c .before .no-row .ensures,
       c .if4 .taken,
     )
@@ -48,7 +48,7 @@ accepted c =
       ← c .before .before .before .before .before .is-idle .ensures,
       c .before .before .before .before .if2 .left,
       le-ltb _ _ (c .before .before .before .if3 .left),
-      ← c .before .before .call-named .ensures,
+      ← c .before .before .named .ensures,
       ← c .before .no-row .ensures,
       c .if4 .left,
     )

@@ -10,7 +10,7 @@ use borrow.Author.Needs.{needs}
 use Rattle.list.proofs.set_up.Statement.{statement}
 use Rattle.list.proofs.set_up.Tie as tie
 
-small : tie.Need-cast-resting-state
+small : tie.Need-cast-resting
 small c =
     let c13 = c .before .before .before .before .before .before .before .before .before .before .before .before .before in
     let c15 = c13 .before .before in
@@ -26,18 +26,17 @@ accepted c =
     let c9 = c .before .before .before .before .before .before .before .before .before in
     let c14 = c9 .before .before .before .before .before in
     let c16 = c14 .before .before in
-    set-up-accepts _ _
+    set-up-accepts _ _ _
     (c16 .set-up-verdict .ensures)
     (c14 .enum-told .given .1)
     (c9 .fresh-table .ensures)
-    (c .resting-state .ensures)
+    (c .resting .ensures)
 
 refused : tie.Need-returns-2
 refused c =
-    set-up-refuses _ _
-    (c .before .before .before .set-up-verdict .ensures)
-    (c .before .enum-told2 .given .1)
-    (c .resting-state2 .ensures)
+    set-up-refuses _ _ _
+    (c .before .before .set-up-verdict .ensures)
+    (c .enum-told2 .given .1)
 
 pub set-up-spec : {M : Type 1} → statement M
 set-up-spec =

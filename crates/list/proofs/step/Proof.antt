@@ -1,4 +1,4 @@
--- `step` is the bare move where its tests pass.
+-- `step` is the unchecked move where its tests pass.
 -- Assumes nothing.
 use Rattle.list.proofs.Laws.{move-accepts, move-refuses}
 use borrow.Author.Needs.{needs}

@@ -3,6 +3,7 @@
 use mathlib.Core.Path.{_≡_, refl, sym, ap, _∙_}
 use Prim.Native.Nat.{ℕ, _≤_}
 use native.Mathlib.Omega.{arith}
+use borrow.Author.Tests.{not-true, not-false}
 use Rattle.list_rows.specs.Table.{Table, tab}
 use Rattle.list_chain.specs.Chain.{rises}
 use Rattle.list_chain.proofs.Walk.{rises-none, rises-end, rises-stop, rises-on}
@@ -25,34 +26,34 @@ holds c = (omega arith, refl)
 
 arrived : tie.Need-returns Inv-loop μ-loop
 arrived c =
-    let m = c .before .before in
+    let m = c .before .before .before in
     let t = table (m .before .before .before .before .before) in
     sym (m .loop .inv .1 ∙ rises-end t (m .loop .row) (m .loop .left) (c .if1 .taken))
 
 falls : tie.Need-returns-2 Inv-loop μ-loop
 falls c =
-    let c3 = c .before .before .before in
-    let m = c3 .before .before .before in
+    let c3 = c .before .before in
+    let m = c3 .before .before .before .before in
     let t = table (m .before .before .before .before .before) in
     sym
     (m .loop .inv .1
     ∙ rises-stop t (m .loop .row) (m .loop .left) (omega arith) (c3 .before .if1 .left) (c3 .row-behind .ensures)
-    (rw (← c .before .before .rank .ensures, ← c .before .rank2 .ensures) (c .if2 .taken)))
+    (sym (c .before .below .ensures) ∙ not-true _ (c .if2 .taken)))
 
 again : tie.Need-loop-again Inv-loop μ-loop
 again c =
-    let c3 = c .before .before .before in
-    let m = c3 .before .before .before in
+    let c3 = c .before .before in
+    let m = c3 .before .before .before .before in
     let t = table (m .before .before .before .before .before) in (
       omega arith,
       m .loop .inv .1
           ∙ rises-on t (m .loop .row) (m .loop .left) (omega arith) (c3 .before .if1 .left) (c3 .row-behind .ensures)
-          (rw (← c .before .before .rank .ensures, ← c .before .rank2 .ensures) (c .if2 .left)),
+          (sym (c .before .below .ensures) ∙ not-false _ (c .if2 .left)),
     )
 
 out : tie.Need-returns-3 Inv-loop μ-loop
 out c =
-    let m = c .before in
+    let m = c .before .before in
     let t = table (m .before .before .before .before .before) in
     let spent : m .loop .left ≡ 0 = omega arith in
     sym (m .loop .inv .1 ∙ ap (λ (n : ℕ). rises t n (m .loop .row)) spent ∙ rises-none t (m .loop .row))
@@ -61,5 +62,5 @@ pub chain-rises-spec : {M : Type 1} → statement M
 chain-rises-spec =
     tie.close
     (tie.spec
-    Inv-loop μ-loop holds arrived (λ c κs. search needs) (λ c κs. search needs) (λ c κs. search needs) falls (λ c. omega arith)
+    Inv-loop μ-loop holds arrived (λ c κs. search needs) (λ c κs. search needs) falls (λ c. omega arith)
     (λ c. omega arith) again out)

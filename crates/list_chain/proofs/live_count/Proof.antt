@@ -27,7 +27,7 @@ holds c = (omega arith, sym (zero-add _))
 
 arrived : tie.Need-returns Inv-loop μ-loop
 arrived c =
-    let m = c .before .before in
+    let m = c .before .before .before in
     let t = table (m .before .before .before .before .before) in
     sym (m .loop .inv .1 ∙ none-left (m .loop .count) (live-end t (m .loop .row) (m .loop .left) (c .if1 .taken)))
 
@@ -37,7 +37,7 @@ adds c = let one : c .one-if .result ≤ 1 = one-at-most (c .before .is-live .re
 again : tie.Need-loop-again Inv-loop μ-loop
 again c =
     let c3 = c .before .before .before in
-    let m = c3 .before .before in
+    let m = c3 .before .before .before in
     let t = table (m .before .before .before .before .before) in
     let one : c .before .one-if .result ≤ 1 = one-at-most (c .before .before .is-live .result) (c .before .one-if .ensures) in (
       omega arith,

@@ -28,32 +28,32 @@ holds c = (omega arith, refl, refl)
 
 arrived : tie.Need-returns Inv-loop μ-loop
 arrived c =
-    let m = c .before .before in
+    let m = c .before .before .before in
     let t = table (m .before .before .before .before .before .before) in
     sym (m .loop .inv .2 ∙ ap (sets (m .loop .places) (m .loop .place)) (live-end t (m .loop .row) (m .loop .left) (c .if1 .taken)))
 
 adds : tie.Need-add-place Inv-loop μ-loop
 adds c =
-    let c9 = c .before .before .before .before .before .before .before .before .before in
+    let c9 = c .before .before .before .before .before .before .before .before .before .before in
     let c15 = c9 .before .before .before .before .before .before in
     let one : c .one-if .result ≤ 1 = one-at-most (c .before .before .before .before .before .before .is-live .result) (c .one-if .ensures) in
     omega (arith, c9 .loop .inv, c15 .good, c15 .fits)
 
 fewer : tie.Need-sub-left Inv-loop μ-loop
 fewer c =
-    let c9 = c .before .before .before .before .before .before .before .before .before in
+    let c9 = c .before .before .before .before .before .before .before .before .before .before in
     omega (arith, c9 .before .loop .inv, c9 .loop-test .taken)
 
 less : tie.Need-loop-less Inv-loop μ-loop
 less c =
-    let c9 = c .before .before .before .before .before .before .before .before .before in
+    let c9 = c .before .before .before .before .before .before .before .before .before .before in
     omega (arith, c9 .before .loop .inv, c9 .loop-test .taken)
 
 again : tie.Need-loop-again Inv-loop μ-loop
 again c =
     let c4 = c .before .before .before .before in
     let c7 = c4 .before .before .before in
-    let c9 = c7 .before .before in
+    let c9 = c7 .before .before .before in
     let m = c9 .before in
     let t = table (m .before .before .before .before .before .before) in
     let one : c .before .one-if .result ≤ 1 = one-at-most (c7 .is-live .result) (c .before .one-if .ensures) in (

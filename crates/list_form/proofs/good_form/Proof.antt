@@ -1,4 +1,4 @@
--- `good_form` tests all parts.
+-- `good_form` tests both parts.
 -- Assumes nothing.
 use Rattle.list_form.specs.Form.{goodForm}
 use borrow.Author.Needs.{needs}
@@ -7,23 +7,7 @@ use Rattle.list_form.proofs.good_form.Tie as tie
 
 returns : tie.Need-returns
 unfolding goodForm
-returns c =
-    let c8 = c .before .before .before .before .before .before .before .before in
-    rw (
-      c8 .columns-agree .ensures,
-      c .before .before .before .before .before .before .before .taken-fits .ensures,
-      c .before .before .before .before .before .before .kinds-fit .ensures,
-      c .before .before .before .before .before .keys-fit .ensures,
-      c .before .before .before .before .links-fit .ensures,
-      c .before .before .before .links-fit2 .ensures,
-      c .before .before .count-fits .ensures,
-      c .before .parties-fit .ensures,
-      c .tallies-fit .ensures,
-    )
+returns c = rw (c .before .good-rows .ensures, c .good-parties .ensures)
 
 pub good-form-spec : {M : Type 1} → statement M
-good-form-spec =
-    tie.close
-    (tie.spec
-    (λ c κs. search needs) (λ c κs. search needs) (λ c κs. search needs) (λ c κs. search needs) (λ c κs. search needs)
-    (λ c κs. search needs) (λ c κs. search needs) (λ c κs. search needs) (λ c κs. search needs) returns)
+good-form-spec = tie.close (tie.spec (λ c κs. search needs) (λ c κs. search needs) returns)

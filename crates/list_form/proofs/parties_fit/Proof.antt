@@ -9,7 +9,7 @@ use Rattle.logic.specs.Every.{every}
 use Rattle.logic.proofs.Every.{every-more, every-fails}
 use Rattle.list_party.specs.declared.Party.{Party}
 use Rattle.list_party.specs.declared.State.{State}
-use Rattle.list_party.specs.Party.{partyAt}
+use Rattle.list_party.specs.State.{partyAt}
 use Rattle.list_form.specs.Form.{partyFits, partiesFit}
 use borrow.Author.Needs.{needs}
 use Rattle.list_form.proofs.parties_fit.Statement.{statement}

@@ -12,8 +12,8 @@ past-a-splice c =
       ← c .before .before .before .before .before .read-u16 .ensures,
       ← c .before .before .before .before .is-splice .ensures,
       c .before .before .before .if1 .taken,
-      c .reads .ensures,
-      c .before .skipping .ensures,
+      c .goes-on .ensures,
+      c .before .goes-to .ensures,
       c .before .before .read-u162 .ensures,
     )
 

@@ -12,8 +12,8 @@ past-a-splice c =
       ← c .before .before .before .before .before .read-u16 .ensures,
       ← c .before .before .before .before .is-splice .ensures,
       c .before .before .before .if1 .taken,
-      c .reads .ensures,
-      c .before .walking .ensures,
+      c .goes-on .ensures,
+      c .before .goes-to .ensures,
       c .before .before .read-u162 .ensures,
     )
 
@@ -24,8 +24,8 @@ one-row-on c =
       ← c .before .before .before .before .read-u16 .ensures,
       ← c .before .before .before .is-splice .ensures,
       c .before .before .if1 .left,
-      c .reads2 .ensures,
-      c .before .walking2 .ensures,
+      c .goes-on2 .ensures,
+      c .before .goes-to2 .ensures,
     )
 
 pub onward-spec : {M : Type 1} → statement M

@@ -7,7 +7,7 @@ use Rattle.list_moves.proofs.prepare.Tie as tie
 
 returns : tie.Need-returns
 unfolding prepareOf
-returns c = rw (c .reads .ensures, c .before .adding .ensures)
+returns c = rw (c .readies .ensures, c .before .goes-to .ensures)
 
 pub prepare-spec : {M : Type 1} → statement M
 prepare-spec = tie.close (tie.spec (λ c κs. search needs) (λ c κs. search needs) returns)

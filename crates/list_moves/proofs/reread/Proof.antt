@@ -22,8 +22,8 @@ mark-again c =
       ← c .before .before .before .before .read-u16 .ensures,
       ← c .before .before .before .is-splice .ensures,
       c .before .before .if1 .left,
-      c .reads .ensures,
-      c .before .marking .ensures,
+      c .readies .ensures,
+      c .before .goes-to .ensures,
     )
 
 pub reread-spec : {M : Type 1} → statement M

@@ -10,7 +10,7 @@ use lib.ListN.{length}
 use native.Mathlib.Omega.{arith}
 use mathlib.Core.Logic.{⊎-elim}
 use Rattle.list_rows.specs.Table.{tab}
-use Rattle.list_unchecked.specs.Bare.{machine}
+use Rattle.list_unchecked.specs.Unchecked.{machine}
 use Rattle.script.specs.Lines.{endsBody}
 use Rattle.script.specs.Body.{mostLines}
 use Rattle.script.proofs.Laws.{body-none, body-stop}

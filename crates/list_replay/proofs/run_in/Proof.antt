@@ -4,7 +4,7 @@ use mathlib.Core.Path.{ap}
 use Rattle.page.proofs.Laws.{told}
 use Prim.{Unit}
 use Rattle.refusal.specs.Answer.{Left}
-use Rattle.list_unchecked.specs.Bare.{Machine}
+use Rattle.list_unchecked.specs.Unchecked.{Machine}
 use Rattle.script.specs.Body.{bodyOf}
 use Rattle.list_replay.specs.Output.{plain, played}
 use borrow.Author.Needs.{needs}

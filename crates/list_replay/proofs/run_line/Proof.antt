@@ -4,8 +4,8 @@ use mathlib.Core.Path.{ap}
 use Rattle.page.proofs.Laws.{told}
 use Rattle.list_replay.proofs.Laws.{says-so}
 use Rattle.refusal.specs.Answer.{Left}
-use Rattle.list_unchecked.specs.Bare.{Machine}
-use Rattle.list_moves.specs.declared.Said.{Said}
+use Rattle.list_unchecked.specs.Unchecked.{Machine}
+use Rattle.calls.specs.declared.Said.{Said}
 use borrow.Author.Needs.{needs}
 use Rattle.list_replay.proofs.run_line.Statement.{statement}
 use Rattle.list_replay.proofs.run_line.Tie as tie

@@ -1,6 +1,6 @@
 -- `begin` starts each call.
 -- Assumes nothing.
-use Rattle.list_unchecked.specs.Bare.{begunOf}
+use Rattle.list_unchecked.specs.Unchecked.{begunOf}
 use borrow.Author.Needs.{needs}
 use Rattle.list_unchecked.proofs.begin.Statement.{statement}
 use Rattle.list_unchecked.proofs.begin.Tie as tie
@@ -14,8 +14,7 @@ unfolding begunOf
 remove c = rw (c .before .enum-told2 .given .1) (c .start2 .ensures)
 
 contains : tie.Need-returns-3
-unfolding begunOf
-contains c = rw (c .before .enum-told3 .given .1, c .looking .ensures)
+contains c = rw (c .before .enum-told3 .given .1) (c .look .ensures)
 
 pub begin-spec : {M : Type 1} → statement M
 begin-spec =

@@ -1,7 +1,7 @@
 -- `settle` puts the record and the tallies into the state.
 -- Assumes nothing.
 use mathlib.Core.Path.{ap, _∙_}
-use Rattle.list_party.specs.Party.{tallied}
+use Rattle.list_party.specs.State.{tallied}
 use borrow.Author.Needs.{needs}
 use Rattle.list_unchecked.proofs.settle.Statement.{statement}
 use Rattle.list_unchecked.proofs.settle.Tie as tie

@@ -3,8 +3,8 @@
 use mathlib.Core.Path.{sym, ap}
 use Rattle.page.proofs.Laws.{told}
 use Rattle.report.specs.Lines.{refusedLine, saidBy}
-use Rattle.list.specs.declared.Reply.{Reply}
-use Rattle.list.specs.Answers.{replyIs}
+use Rattle.calls.specs.declared.Reply.{Reply}
+use Rattle.calls.specs.Words.{replyIs}
 use borrow.Author.Needs.{needs}
 use Rattle.report.proofs.put_reply.Statement.{statement}
 use Rattle.report.proofs.put_reply.Tie as tie

@@ -5,8 +5,17 @@ use borrow.Author.Needs.{needs}
 use Rattle.list_rows.proofs.Row.end_rank.Statement.{statement}
 use Rattle.list_rows.proofs.Row.end_rank.Tie as tie
 
+first : tie.Need-returns
+first c = rw (c .if1 .taken)
+
+second : tie.Need-returns-2
+second c = rw (c .if2 .taken)
+
+third : tie.Need-returns-3
+third c = rw (c .if3 .taken)
+
 rest : tie.Need-returns-4
-rest c = let other = c .match .rest in far-end (c .before .args .self .0) (other .0 .0 .1) (other .0 .1) (other .1)
+rest c = far-end _ (c .before .before .before .before .if1 .left) (c .before .before .if2 .left) (c .if3 .left)
 
 pub end-rank-spec : {M : Type 1} → statement M
-end-rank-spec = tie.close (tie.spec (λ c. search needs) (λ c. search needs) (λ c. search needs) rest)
+end-rank-spec = tie.close (tie.spec first second third rest)

@@ -2,8 +2,8 @@
 -- Assumes nothing.
 use borrow.Author.Tests.{lt-ltb, le-ltb}
 use borrow.Author.Needs.{needs}
-use Rattle.list_party.proofs.one_more.Statement.{statement}
-use Rattle.list_party.proofs.one_more.Tie as tie
+use Rattle.calls.proofs.one_more.Statement.{statement}
+use Rattle.calls.proofs.one_more.Tie as tie
 
 more : tie.Need-returns
 more c = rw (lt-ltb _ _ (c .if1 .taken))

@@ -1,0 +1,3 @@
+-- That readings tell the case, and that the contracts leave no choice.
+pub mod Told
+pub mod Determined

@@ -1,0 +1,18 @@
+-- What is proved of calls and answers: a promise made in the document's words determines the case of the enum.
+use mathlib.Core.Path.{_≡_}
+use Rattle.calls.specs.declared.Call.{Call}
+use Rattle.calls.specs.declared.Said.{Said}
+use Rattle.calls.specs.declared.Reply.{Reply}
+use Rattle.calls.specs.Calls.{callNamed, codeOf}
+use Rattle.calls.specs.Words.{wordOf, replyIs}
+
+-- the code of a call names that call
+abbrev pub NamedByItsCode : Type 0
+NamedByItsCode = (call : Call) → callNamed (codeOf call) ≡ call
+
+-- what reads the same is the same
+abbrev pub WordsDiffer : Type 0
+WordsDiffer = (a b : Said) → wordOf a ≡ wordOf b → a ≡ b
+
+abbrev pub RepliesDiffer : Type 0
+RepliesDiffer = (a b : Reply) → replyIs a ≡ replyIs b → a ≡ b
