@@ -1,9 +1,9 @@
 // The stored schedules: runs each through `replay`, holds its whole output to the stored one byte for byte, and prints a line a group and a total.
 use check::same;
 use libc::STDOUT_FILENO;
+use list_replay::replay;
 use page::put;
 use page::put_number;
-use list_replay::replay;
 ghost use mathlib.Core.Path.{_≡_};
 ghost use lib.ListN.{length};
 ghost use Prim.Native.Nat.{_≤_};
