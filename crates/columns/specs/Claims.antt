@@ -20,7 +20,8 @@ ReadsWhatWasPut = (column : List ℕ) (row value : ℕ) → row < length column 
 
 -- a write changes no other row
 abbrev pub KeepsOtherRows : Type 0
-KeepsOtherRows = (column : List ℕ) (row other value : ℕ) → other ≢ row → at (put column row value) other ≡ at column other
+KeepsOtherRows = (column : List ℕ) (row other value : ℕ) → other ≢ row →
+    at (put column row value) other ≡ at column other
 
 -- a write changes no length
 abbrev pub KeepsLength : Type 0

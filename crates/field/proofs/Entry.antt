@@ -12,7 +12,7 @@ use Rattle.refusal.specs.Answer.{accepted, refused, left, passed, refusing}
 use Rattle.refusal.proofs.Laws.{past-test}
 use Rattle.field.specs.declared.ByteOrder.{ByteOrder}
 use Rattle.field.specs.declared.Four.{Four}
-use Rattle.field.specs.Layout.{highNumber, highBytes, turned, numberIn, bytesIn}
+use Rattle.field.specs.Layout.{highNumber, highBytes, arranged, numberIn, bytesIn}
 use Rattle.field.specs.Field.{bytesAt, putBytes, fieldAt, stored, orderOf, noSuchOrder, runsPast, fieldTests, loadOf, storeOf}
 use Rattle.field.specs.Readings.{fourBytes}
 
@@ -52,12 +52,12 @@ module _ (bytes : List ℕ) (place code : ℕ) where
 
 -- the sum of four bytes in their order is what the field holds
 pub key-held : (order : ByteOrder) (bytes : List ℕ) (place : ℕ) (read high : Four) {key : ℕ} →
-    fourBytes read ≡ bytesAt 4 bytes place → fourBytes high ≡ turned order (fourBytes read) →
+    fourBytes read ≡ bytesAt 4 bytes place → fourBytes high ≡ arranged order (fourBytes read) →
     key ≡ high .0 * 16777216 + high .1 * 65536 + high .2 * 256 + high .3 → key ≡ fieldAt order 4 bytes place
 unfolding fieldAt numberIn
 key-held order bytes place read high {key} at-place in-order sum =
     let number : key ≡ highNumber (fourBytes high) = omega arith in
-    number ∙ ap highNumber (in-order ∙ ap (turned order) at-place)
+    number ∙ ap highNumber (in-order ∙ ap (arranged order) at-place)
 
 -- ---- a store
 
@@ -75,9 +75,9 @@ module _ (bytes : List ℕ) (place code key : ℕ) where
 -- four bytes split from a key, in their order, written at the place: the key is stored
 pub key-stored : (order : ByteOrder) (bytes : List ℕ) (place key : ℕ) (high new : Four) {after : List ℕ} →
     (high .0 ≡ key / 16777216 % 256) × (high .1 ≡ key / 65536 % 256) × (high .2 ≡ key / 256 % 256) × (high .3 ≡ key % 256) →
-    fourBytes new ≡ turned order (fourBytes high) → after ≡ putBytes bytes place (fourBytes new) → after ≡ stored order 4 bytes place key
+    fourBytes new ≡ arranged order (fourBytes high) → after ≡ putBytes bytes place (fourBytes new) → after ≡ stored order 4 bytes place key
 unfolding stored bytesIn
 key-stored order bytes place key high new parts in-order written =
     let last : high .3 ≡ key / 1 % 256 = parts .3 ∙ sym (ap (λ (n : ℕ). n % 256) (div-one key)) in
     let split : fourBytes high ≡ highBytes 4 key = rw (parts .0, parts .1, parts .2, last) in
-    written ∙ ap (putBytes bytes place) (in-order ∙ ap (turned order) split)
+    written ∙ ap (putBytes bytes place) (in-order ∙ ap (arranged order) split)

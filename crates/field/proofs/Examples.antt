@@ -3,15 +3,15 @@
 use mathlib.Core.Path.{refl}
 use Rattle.field.specs.Layout.{numberIn, bytesIn}
 use Rattle.field.specs.Field.{fieldAt, stored, fieldTests, loadOf, storeOf}
-use Rattle.field.specs.Examples.{FirstSlip, NoSlip, FieldEnds, OrderFirst}
+use Rattle.field.specs.Examples.{LoadedInWrongOrder, LoadedInRightOrder, FieldEnds, OrderFirst}
 
-pub first-slip : FirstSlip
+pub loaded-in-wrong-order : LoadedInWrongOrder
 unfolding loadOf storeOf fieldTests fieldAt stored numberIn bytesIn
-first-slip = (refl, refl, refl)
+loaded-in-wrong-order = (refl, refl, refl)
 
-pub no-slip : NoSlip
+pub loaded-in-right-order : LoadedInRightOrder
 unfolding loadOf storeOf fieldTests fieldAt stored numberIn bytesIn
-no-slip = (refl, refl, refl)
+loaded-in-right-order = (refl, refl, refl)
 
 pub field-ends : FieldEnds
 unfolding loadOf storeOf fieldTests fieldAt stored numberIn bytesIn

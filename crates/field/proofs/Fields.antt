@@ -41,7 +41,9 @@ module _ (bytes : List ℕ) (place : ℕ) (new : List ℕ) (inside : place + len
       ∙ ap (λ (n : ℕ). getD bytes n 0) home
 
   put-held : bytesAt (length new) (putBytes bytes place new) place ≡ new
-  put-held = rw (append-assoc, drop-at (take place bytes) (new ++ drop (place + length new) bytes) place front) (take-at new (drop (place + length new) bytes) (length new) refl)
+  put-held =
+      rw (append-assoc, drop-at (take place bytes) (new ++ drop (place + length new) bytes) place front)
+      (take-at new (drop (place + length new) bytes) (length new) refl)
 
 -- ---- the bytes that stand at a place
 

@@ -3,12 +3,23 @@
 use mathlib.Core.Path.{_≡_, refl, ap, sym, _∙_}
 use mathlib.Core.List.{List, [], _∷_, reverseAux, reverse-reverse}
 use Prim.Native.Nat.{ℕ, zero, suc, _+_, _*_, _/_, _%_, _^_, _<_, _≤_}
-use native.Mathlib.Nat.{pow-suc, mod-one, mod-lt, mod-eq-of-lt, div-add-mod', mul-add-div-right, mul-add-mod-self-right, div-eq-of-lt, mul-le-mul-right, one-le-pow}
+use native.Mathlib.Nat.{
+  pow-suc,
+  mod-one,
+  mod-lt,
+  mod-eq-of-lt,
+  div-add-mod',
+  mul-add-div-right,
+  mul-add-mod-self-right,
+  div-eq-of-lt,
+  mul-le-mul-right,
+  one-le-pow,
+}
 use native.Mathlib.Omega.{arith}
 use lib.ListN.{length, length-reverse}
 use Rattle.field.specs.declared.ByteOrder.{ByteOrder}
 use Rattle.field.specs.declared.ByteOrder.the-variants.{HighFirst, LowFirst}
-use Rattle.field.specs.Layout.{highNumber, highBytes, turned, numberIn, bytesIn, Bytes}
+use Rattle.field.specs.Layout.{highNumber, highBytes, arranged, numberIn, bytesIn, Bytes}
 use Rattle.field.specs.Claims.{NumberOfItsBytes, BytesOfTheirNumber, NumberBelowPower}
 
 -- ---- high byte first
@@ -38,7 +49,8 @@ high-number-mod (suc width) number =
 high-bytes-above : (width above number : ℕ) → highBytes width (above * 256 ^ width + number) ≡ highBytes width number
 high-bytes-above zero above number = refl
 high-bytes-above (suc width) above number =
-    let regroup : above * 256 ^ suc width + number ≡ above * 256 * 256 ^ width + number = omega (arith, pow-suc 256 width, ap (λ (n : ℕ). above * n) (pow-suc 256 width)) in
+    let regroup : above * 256 ^ suc width + number ≡ above * 256 * 256 ^ width + number =
+    omega (arith, pow-suc 256 width, ap (λ (n : ℕ). above * n) (pow-suc 256 width)) in
     let first : (above * 256 * 256 ^ width + number) / 256 ^ width % 256 ≡ number / 256 ^ width % 256 =
     ap (λ (n : ℕ). n % 256) (mul-add-div-right (power-positive width) (above * 256) number) ∙ mul-add-mod-self-right above 256 (number / 256 ^ width) in
     rw (regroup, first, high-bytes-above width (above * 256) number)
@@ -62,13 +74,13 @@ high-bytes-of-number (byte ∷ rest) all =
 
 -- ---- both orders
 
-long-turned : (order : ByteOrder) (bytes : List ℕ) → length (turned order bytes) ≡ length bytes
-long-turned HighFirst bytes = refl
-long-turned LowFirst bytes = length-reverse bytes
+long-arranged : (order : ByteOrder) (bytes : List ℕ) → length (arranged order bytes) ≡ length bytes
+long-arranged HighFirst bytes = refl
+long-arranged LowFirst bytes = length-reverse bytes
 
-turned-twice : (order : ByteOrder) (bytes : List ℕ) → turned order (turned order bytes) ≡ bytes
-turned-twice HighFirst bytes = refl
-turned-twice LowFirst bytes = reverse-reverse bytes
+arranged-twice : (order : ByteOrder) (bytes : List ℕ) → arranged order (arranged order bytes) ≡ bytes
+arranged-twice HighFirst bytes = refl
+arranged-twice LowFirst bytes = reverse-reverse bytes
 
 cons-bytes : (byte : ℕ) (rest : List ℕ) → byte < 256 → Bytes rest → Bytes (byte ∷ rest)
 cons-bytes byte rest small all zero = small
@@ -79,23 +91,23 @@ reversed-bytes [] behind all all-behind = all-behind
 reversed-bytes (byte ∷ rest) behind all all-behind =
     reversed-bytes rest (byte ∷ behind) (λ place. all (suc place)) (cons-bytes byte behind (all zero) all-behind)
 
-turned-bytes : (order : ByteOrder) (bytes : List ℕ) → Bytes bytes → Bytes (turned order bytes)
-turned-bytes HighFirst bytes all = all
-turned-bytes LowFirst bytes all = reversed-bytes bytes [] all (λ place. omega arith)
+arranged-bytes : (order : ByteOrder) (bytes : List ℕ) → Bytes bytes → Bytes (arranged order bytes)
+arranged-bytes HighFirst bytes all = all
+arranged-bytes LowFirst bytes all = reversed-bytes bytes [] all (λ place. omega arith)
 
 pub long-bytes : (order : ByteOrder) (width number : ℕ) → length (bytesIn order width number) ≡ width
 unfolding bytesIn
-long-bytes order width number = long-turned order (highBytes width number) ∙ long-high width number
+long-bytes order width number = long-arranged order (highBytes width number) ∙ long-high width number
 
 pub number-of-its-bytes : NumberOfItsBytes
 unfolding numberIn bytesIn
-number-of-its-bytes order width number small = rw turned-twice (high-number-mod width number ∙ mod-eq-of-lt small)
+number-of-its-bytes order width number small = rw arranged-twice (high-number-mod width number ∙ mod-eq-of-lt small)
 
 pub bytes-of-their-number : BytesOfTheirNumber
 unfolding numberIn bytesIn
 bytes-of-their-number order bytes all =
-    rw (← long-turned order bytes, high-bytes-of-number (turned order bytes) (turned-bytes order bytes all)) (turned-twice order bytes)
+    rw (← long-arranged order bytes, high-bytes-of-number (arranged order bytes) (arranged-bytes order bytes all)) (arranged-twice order bytes)
 
 pub number-below-power : NumberBelowPower
 unfolding numberIn
-number-below-power order bytes all = rw (← long-turned order bytes) (high-number-below (turned order bytes) (turned-bytes order bytes all))
+number-below-power order bytes all = rw (← long-arranged order bytes) (high-number-below (arranged order bytes) (arranged-bytes order bytes all))

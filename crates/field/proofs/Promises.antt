@@ -63,8 +63,8 @@ store-then-load bytes place code key small accepts =
     let after : List ℕ = stored (orderOf code) 4 bytes place key in
     let long : length (stored (orderOf code) 4 bytes place key) ≡ length bytes = store-touches-no-other (orderOf code) 4 bytes place key inside .0 in
     let left-so : left (stored (orderOf code) 4 bytes place key) passed ≡ storeOf bytes place code key = store-accepts bytes place code key passes refl refl in
-    rw (← left-so)
-    (sym (load-accepts after place code (ap (λ (n : ℕ). fieldTests n place code) long ∙ passes) refl (sym (stored-is-held (orderOf code) 4 bytes place key inside small))))
+    let held : key ≡ fieldAt (orderOf code) 4 after place = sym (stored-is-held (orderOf code) 4 bytes place key inside small) in
+    rw (← left-so) (sym (load-accepts after place code (ap (λ (n : ℕ). fieldTests n place code) long ∙ passes) refl held))
 
 pub load-then-store : LoadThenStore
 load-then-store bytes place code key all accepts =

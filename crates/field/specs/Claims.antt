@@ -13,11 +13,13 @@ use Rattle.field.specs.Readings.{loadedIs}
 
 -- the number of the bytes of a number is the number
 abbrev pub NumberOfItsBytes : Type 0
-NumberOfItsBytes = (order : ByteOrder) (width number : ℕ) → number < 256 ^ width → numberIn order (bytesIn order width number) ≡ number
+NumberOfItsBytes = (order : ByteOrder) (width number : ℕ) → number < 256 ^ width →
+    numberIn order (bytesIn order width number) ≡ number
 
 -- the bytes of the number of bytes are the bytes
 abbrev pub BytesOfTheirNumber : Type 0
-BytesOfTheirNumber = (order : ByteOrder) (bytes : List ℕ) → Bytes bytes → bytesIn order (length bytes) (numberIn order bytes) ≡ bytes
+BytesOfTheirNumber = (order : ByteOrder) (bytes : List ℕ) → Bytes bytes →
+    bytesIn order (length bytes) (numberIn order bytes) ≡ bytes
 
 -- a number of n bytes is below 256 to the power of n
 abbrev pub NumberBelowPower : Type 0
@@ -28,12 +30,14 @@ abbrev pub StoreTouchesNoOther : Type 0
 StoreTouchesNoOther =
     (order : ByteOrder) (width : ℕ) (bytes : List ℕ) (place number : ℕ) → place + width ≤ length bytes →
     (length (stored order width bytes place number) ≡ length bytes)
-    × ((other : ℕ) → (other < place) ⊎ (place + width ≤ other) → getD (stored order width bytes place number) other 0 ≡ getD bytes other 0)
+    × ((other : ℕ) → (other < place) ⊎ (place + width ≤ other) →
+    getD (stored order width bytes place number) other 0 ≡ getD bytes other 0)
 
 -- what was stored in a field is what the field holds
 abbrev pub StoredIsHeld : Type 0
 StoredIsHeld =
-    (order : ByteOrder) (width : ℕ) (bytes : List ℕ) (place number : ℕ) → place + width ≤ length bytes → number < 256 ^ width →
+    (order : ByteOrder) (width : ℕ) (bytes : List ℕ) (place number : ℕ) →
+    place + width ≤ length bytes → number < 256 ^ width →
     fieldAt order width (stored order width bytes place number) place ≡ number
 
 -- storing what a field holds gives the record back
@@ -42,7 +46,8 @@ HeldIsStored =
     (order : ByteOrder) (width : ℕ) (bytes : List ℕ) (place : ℕ) → Bytes bytes → place + width ≤ length bytes →
     stored order width bytes place (fieldAt order width bytes place) ≡ bytes
 
--- When a load is refused, and with what. The three cases leave none out and their answers differ, so each is given exactly in its case:
+-- When a load is refused, and with what. The three cases leave none out and their answers differ,
+-- so each is given exactly in its case:
 -- 11 where the code names no order; else 10 where the field runs past the end; else the key that the field holds.
 abbrev pub LoadsExactly : Type 0
 LoadsExactly =
@@ -57,7 +62,8 @@ StoresExactly =
     (bytes : List ℕ) (place code key : ℕ) →
     (1 < code → storeOf bytes place code key ≡ left bytes (refused 11))
     × (code ≤ 1 → length bytes < place + 4 → storeOf bytes place code key ≡ left bytes (refused 10))
-    × (code ≤ 1 → place + 4 ≤ length bytes → storeOf bytes place code key ≡ left (stored (orderOf code) 4 bytes place key) passed)
+    × (code ≤ 1 → place + 4 ≤ length bytes →
+    storeOf bytes place code key ≡ left (stored (orderOf code) 4 bytes place key) passed)
 
 -- a store that is accepted, then a load: the key
 abbrev pub StoreThenLoad : Type 0

@@ -1,4 +1,5 @@
--- Fields of a lent record: where they stand, what is refused, what a load answers and a store leaves (document 01, "Key fields" and "Refusal numbers").
+-- Fields of a lent record: where they stand, what is refused, what a load answers and a store leaves
+-- (document 01, "Key fields" and "Refusal numbers").
 use Prim.{Unit}
 use mathlib.Core.Bool.{Bool}
 use mathlib.Core.List.{List, _++_}
@@ -26,7 +27,8 @@ fieldAt order width bytes place = numberIn order (bytesAt width bytes place)
 unfoldable pub stored : ByteOrder → ℕ → List ℕ → ℕ → ℕ → List ℕ
 stored order width bytes place number = putBytes bytes place (bytesIn order width number)
 
--- Code 0 names the order with the high byte first, code 1 the one with the low byte first. (No other code gets past the tests.)
+-- Code 0 names the order with the high byte first, code 1 the one with the low byte first.
+-- (No other code gets past the tests.)
 abbrev pub orderOf : ℕ → ByteOrder
 orderOf zero = HighFirst
 orderOf (suc code) = LowFirst
@@ -45,7 +47,8 @@ fieldTests len place code = refusing (noSuchOrder code) 11 (refusing (runsPast l
 
 -- a load answers the key that the four bytes stand for in the named order
 unfoldable pub loadOf : List ℕ → ℕ → ℕ → Answer ℕ
-loadOf bytes place code = answering (fieldTests (length bytes) place code) (accepted (fieldAt (orderOf code) 4 bytes place))
+loadOf bytes place code =
+    answering (fieldTests (length bytes) place code) (accepted (fieldAt (orderOf code) 4 bytes place))
 
 -- a store puts the key's four bytes into the field and changes nothing else
 unfoldable pub storeOf : List ℕ → ℕ → ℕ → ℕ → Left (List ℕ) (Unit {0})

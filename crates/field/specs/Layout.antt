@@ -16,17 +16,17 @@ highBytes zero number = []
 highBytes (suc width) number = number / 256 ^ width % 256 ∷ highBytes width number
 
 -- In the other order, low byte first, the same bytes stand the other way round.
-abbrev pub turned : ByteOrder → List ℕ → List ℕ
-turned HighFirst bytes = bytes
-turned LowFirst bytes = reverse bytes
+abbrev pub arranged : ByteOrder → List ℕ → List ℕ
+arranged HighFirst bytes = bytes
+arranged LowFirst bytes = reverse bytes
 
 -- the number that bytes stand for in an order
 unfoldable pub numberIn : ByteOrder → List ℕ → ℕ
-numberIn order bytes = highNumber (turned order bytes)
+numberIn order bytes = highNumber (arranged order bytes)
 
 -- the bytes, as many as the width says, that stand for a number in an order
 unfoldable pub bytesIn : ByteOrder → ℕ → ℕ → List ℕ
-bytesIn order width number = turned order (highBytes width number)
+bytesIn order width number = arranged order (highBytes width number)
 
 -- each entry of a list is a byte
 abbrev pub Bytes : List ℕ → Type 0

@@ -5,8 +5,18 @@ ghost use mathlib.Core.Path.{_≡_};
 ghost use Prim.Native.Nat.{_+_, _*_, _/_, _%_, _<_, _≤_};
 ghost use lib.ListN.{length, set};
 ghost use Rattle.refusal.specs.Answer.{verdictIs};
-ghost use Rattle.field.specs.Layout.{turned};
-ghost use Rattle.field.specs.Field.{bytesAt, putBytes, fieldAt, stored, orderOf, runsPast, fieldTests, loadOf, storeOf};
+ghost use Rattle.field.specs.Layout.{arranged};
+ghost use Rattle.field.specs.Field.{
+  bytesAt,
+  putBytes,
+  fieldAt,
+  stored,
+  orderOf,
+  runsPast,
+  fieldTests,
+  loadOf,
+  storeOf,
+};
 ghost use Rattle.field.specs.Readings.{loadedIs, storeLeaves, fourBytes};
 
 // Which byte of a number stands first.
@@ -33,7 +43,8 @@ fn join(four: Four) -> u32
 
 // The four bytes of a number, the high byte first.
 fn split(key: u32) -> Four
-    ensures { λ r. ⌜ (r .0 ≡ key / 16777216 % 256) × (r .1 ≡ key / 65536 % 256) × (r .2 ≡ key / 256 % 256) × (r .3 ≡ key % 256) ⌝ }
+    ensures { λ r. ⌜ (r .0 ≡ key / 16777216 % 256) × (r .1 ≡ key / 65536 % 256)
+        × (r .2 ≡ key / 256 % 256) × (r .3 ≡ key % 256) ⌝ }
 {
     Four(
         ((key >> 24) & 255) as u8,
@@ -43,9 +54,9 @@ fn split(key: u32) -> Four
     )
 }
 
-// Four bytes turned from high first to the order, or back.
-fn turn(order: ByteOrder, four: Four) -> Four
-    ensures { λ r. ⌜ fourBytes r ≡ turned order (fourBytes four) ⌝ }
+// Four bytes arranged from high first to the order, or back.
+fn arrange(order: ByteOrder, four: Four) -> Four
+    ensures { λ r. ⌜ fourBytes r ≡ arranged order (fourBytes four) ⌝ }
 {
     match order {
         ByteOrder::HighFirst => four,
@@ -95,7 +106,8 @@ fn order_of(code: u32) -> ByteOrder
     }
 }
 
-// Whether a field at a place runs past the end of a record of this length. The length is taken down, so that no sum can wrap.
+// Whether a field at a place runs past the end of a record of this length.
+// The length is taken down, so that no sum can wrap.
 fn runs_past(len: usize, place: usize) -> bool
     ensures { λ r. ⌜ r ≡ runsPast len place ⌝ }
 {
@@ -128,7 +140,7 @@ fn key_at(bytes: &[u8], place: usize, order: ByteOrder) -> u32
     requires { ⌜ place + 4 ≤ length (now bytes) ⌝ }
     ensures { λ r. ⌜ r ≡ fieldAt order 4 (now (bytes .entry)) place ⌝ }
 {
-    join(turn(order, four_at(bytes, place)))
+    join(arrange(order, four_at(bytes, place)))
 }
 
 // The key's four bytes written to the field at a place in an order, and no other byte.
@@ -136,7 +148,7 @@ fn put_key(bytes: &mut [u8], place: usize, order: ByteOrder, key: u32)
     requires { ⌜ place + 4 ≤ length (now bytes) ⌝ }
     ensures { λ r. ⌜ now (bytes .exit) ≡ stored order 4 (now (bytes .entry)) place key ⌝ }
 {
-    put_four(bytes, place, turn(order, split(key)))
+    put_four(bytes, place, arrange(order, split(key)))
 }
 
 // The key that the field at a place holds in the order that the code names, or the refusal.
@@ -150,7 +162,8 @@ pub fn load(bytes: &[u8], place: usize, code: u32) -> Loaded
     }
 }
 
-// Writes the key's four bytes, in the order that the code names, to the field at a place, or refuses and writes nothing.
+// Writes the key's four bytes, in the order that the code names, to the field at a place,
+// or refuses and writes nothing.
 pub fn store(bytes: &mut [u8], place: usize, code: u32, key: u32) -> Verdict
     ensures { λ r. ⌜ storeLeaves (now (bytes .exit)) r ≡ storeOf (now (bytes .entry)) place code key ⌝ }
 {

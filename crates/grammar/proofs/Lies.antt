@@ -17,7 +17,7 @@ use Rattle.text.specs.declared.Number.{Number}
 use Rattle.page.specs.Page.{decimal}
 use Rattle.script.specs.Lines.{lineEnd}
 use Rattle.grammar.specs.Schedule.{bytePairs, AllHex, numberText}
-use Rattle.grammar.proofs.Spelled.{reads-back}
+use Rattle.grammar.proofs.Numerals.{reads-back}
 
 -- from a place within the text on, these bytes are all that lies ahead
 pub record Lies (text : List ℕ) (at : ℕ) (ahead : List ℕ) : Type 0 where

@@ -13,12 +13,14 @@ use lib.Dec.{eqb, leb}
 use borrow.Author.Tests.{leb-true, eqb-true, eqb-false}
 use Rattle.text.specs.Reading.{lost, word, numberAt, fieldAt}
 use Rattle.logic.specs.Quoted.{bytes}
+use Rattle.logic.proofs.Cases.{on-cond}
+use Rattle.logic.proofs.Tests.{and-parts}
 use Rattle.text.specs.declared.Number.{Number}
 use Rattle.script.specs.Lines.{lineEnd, verb, verbAt, callLine, stepLine, endLine, lineAt, endsBody, nextOf}
 use Rattle.script.specs.Head.{partiesLine, nodesLine, orderLine, headOf}
 use Rattle.script.specs.Body.{mostLines, endBad, lastBad, badFrom, firstBad}
 use Rattle.script.specs.declared.Line.{Line}
-use Rattle.script.proofs.Progress.{both, kept}
+use Rattle.script.proofs.Progress.{kept}
 use Rattle.grammar.specs.Schedule.{
   Item,
   calls,
@@ -35,7 +37,6 @@ use Rattle.grammar.specs.Schedule.{
 }
 use Rattle.grammar.specs.Claims.{OnlyWritten}
 use Rattle.grammar.proofs.Stands.{taken, Stands, then, upto, word-stands, number-stands, field-stands, line-stands}
-use Rattle.logic.proofs.Cases.{on-cond}
 
 -- a good item stands here
 pub record ItemAt (text : List ℕ) (at next : ℕ) : Type 0 where
@@ -199,13 +200,13 @@ module _ (text : List ℕ) (L : length text ≤ 65536) where
   unfolding partiesLine
   parties-stands h =
       let s = line-stands text L "parties=" (λ v. leb 1 v && leb v 16) 0 h in
-      let w = both _ _ (s .0) in
+      let w = and-parts _ _ (s .0) in
       ((leb-true _ _ (w .0), leb-true _ _ (w .1)), s .1)
 
   -- 0, or 4 to 4,096
   nodes-good : (v : ℕ) (z : Bool) → eqb v 0 ≡ z → z || (leb 4 v && leb v 4096) ≡ true → (v ≡ 0) ⊎ ((4 ≤ v) × (v ≤ 4096))
   nodes-good v true e h = inl (eqb-true v 0 e)
-  nodes-good v false e h = let w = both (leb 4 v) (leb v 4096) h in inr (leb-true 4 v (w .0), leb-true v 4096 (w .1))
+  nodes-good v false e h = let w = and-parts (leb 4 v) (leb v 4096) h in inr (leb-true 4 v (w .0), leb-true v 4096 (w .1))
 
   nodes-stands : (at : ℕ) → nodesLine text at .next ≢ lost
       → let v = numberAt text (word text at (bytes "nodes=")) .value in

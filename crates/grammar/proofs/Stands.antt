@@ -16,18 +16,14 @@ use lib.Dec.{eqb, ltb}
 use borrow.Author.Tests.{ltb-true, ltb-false, lt-ltb, eqb-true, eqb-false}
 use Rattle.text.specs.Reading.{lost, byteAt, placeAfter, word, only, digitOf, numeral, firstDigit, nextDigit, numberAt, hexOf, noPair, pairAt, fieldAt}
 use Rattle.logic.specs.Quoted.{bytes}
+use Rattle.logic.proofs.Cases.{on-cond}
 use Rattle.text.specs.declared.Number.{Number}
 use Rattle.page.specs.Page.{digits, decimal}
 use Rattle.script.specs.Lines.{lineEnd}
 use Rattle.grammar.specs.Schedule.{AllHex, numberText}
-use Rattle.grammar.proofs.Spelled.{one-is, more-is}
+use Rattle.grammar.proofs.Numerals.{one-is, more-is}
 
 -- ---- tests
-
--- what holds of a choice by a test: it is enough to prove it of each value, knowing what the test said
-pub on-cond : {A : Type 0} (P : A → Type 0) (b : Bool) (x y : A) → (b ≡ true → P x) → (b ≡ false → P y) → P (cond b x y)
-on-cond P true x y f g = f refl
-on-cond P false x y f g = g refl
 
 -- a choice whose other place is lost, and which is not lost, was taken
 pub taken : {A : Type 0} (b : Bool) (x y : A) (place : A → ℕ) → place y ≡ lost → place (cond b x y) ≢ lost

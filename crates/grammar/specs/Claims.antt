@@ -1,4 +1,5 @@
--- A text of at most 65,536 bytes passes the reading of a schedule exactly if it is the text of a schedule, and then it is read as that schedule.
+-- A text of at most 65,536 bytes passes the reading of a schedule exactly if it is the text of a schedule,
+-- and then it is read as that schedule.
 use Prim.{Unit}
 use mathlib.Core.Path.{_≡_}
 use mathlib.Core.List.{List, [], _∷_}

@@ -1,4 +1,5 @@
--- What a schedule is, and the text that it is written as (document 01, "The schedule program"). Of reading it takes only what a hex digit stands for.
+-- What a schedule is, and the text that it is written as (document 01, "The schedule program").
+-- Of reading it takes only what a hex digit stands for.
 use Prim.{Unit}
 use mathlib.Core.Logic.{_⊎_}
 use mathlib.Core.Path.{_≡_}

@@ -1,1 +1,2 @@
-// What a schedule is and how it is written, and that a text passes exactly if it is written so: no code; statements in specs/, proofs in proofs/.
+// What a schedule is and how it is written, and that a text passes exactly if it is written so:
+// no code; statements in specs/, proofs in proofs/.

@@ -21,7 +21,9 @@ module _ {w w′ : World} (g : Intact w) (t : Extends w w′) where
 
   -- a marked row keeps its successor
   pub succ-ext : {x : ℕ} → w .Pub x → Removed w x → succ w′ x ≡ succ w x
-  succ-ext {x} p m = rw (t .next x p m, t .rank (w .next x) (g .each x p .closed)) (skip-cong _ _ _ _ (λ (z : w .rank (w .next x) ≡ 0). t .splice (w .next x) (g .each x p .closed) z .0))
+  succ-ext {x} p m =
+      rw (t .next x p m, t .rank (w .next x) (g .each x p .closed))
+      (skip-cong _ _ _ _ (λ (z : w .rank (w .next x) ≡ 0). t .splice (w .next x) (g .each x p .closed) z .0))
 
   pub chunk-ext : {a c : ℕ} → w .Pub a → Chunk w c a → Chunk w′ c a
   chunk-ext p (here e) = here e

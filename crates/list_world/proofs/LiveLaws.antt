@@ -79,7 +79,13 @@ module _ {w : World} {f : ℕ → ℕ} {P : ℕ → Type 0} (g : Intact w) where
   mark-effect m = (mark-was g m, λ r. (λ l. mark-only g m l, λ l. mark-keeps g m (l .0) (l .1)))
 
   pub add-effect : {p e v : ℕ} → Swing w f P p e v → FreshItem w e v → Effect w (put w f P) (gain (w .rank v))
-  add-effect m h = (swing-new g m h, λ r. (λ l. ⊎-elim (λ a. inl a) (λ b. inr (b .0)) (swing-only g m l), λ l. ⊎-elim (λ a. swing-keeps g m a) (λ b. rw b (swing-now g m h)) l))
+  add-effect m h = (
+    swing-new g m h,
+    λ r. (
+      λ l. ⊎-elim (λ a. inl a) (λ b. inr (b .0)) (swing-only g m l),
+      λ l. ⊎-elim (λ a. swing-keeps g m a) (λ b. rw b (swing-now g m h)) l,
+    ),
+  )
 
   pub clean-effect : {p e : ℕ} → Swing w f P p e e → Effect w (put w f P) still
   clean-effect m r = (λ l. ⊎-elim (λ a. a) (λ b. absurd (omega (arith, b .1 .less))) (swing-only g m l), λ l. swing-keeps g m l)

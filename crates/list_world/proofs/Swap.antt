@@ -7,7 +7,19 @@ use native.Mathlib.Omega.{arith}
 use Rattle.list_world.proofs.World.{Chunk, Gone, Intact, Removed, Open, Reach, Proper, RowFacts, World, here, pass, step, stop, succ}
 use Rattle.list_world.proofs.Writes.{FreshItem, MarkSwap, Swing, Relink, put}
 use Rattle.logic.proofs.Cases.{by-row}
-use Rattle.list_world.proofs.WorldLaws.{chunk-reach, chunk-row, gap, not-first, reach-le, reach-linear, reach-snoc, row-succ, skip-cong, skip-pos, succ-open}
+use Rattle.list_world.proofs.WorldLaws.{
+  chunk-reach,
+  chunk-row,
+  gap,
+  not-first,
+  reach-le,
+  reach-linear,
+  reach-snoc,
+  row-succ,
+  skip-cong,
+  skip-pos,
+  succ-open,
+}
 
 module _ {w : World} {f : ℕ → ℕ} {P : ℕ → Type 0} {p v : ℕ} (s : Relink w f P p v) where
   -- rows other than p have the successor that they had
@@ -187,7 +199,9 @@ module _ {w : World} {f : ℕ → ℕ} {P : ℕ → Type 0} {p e v : ℕ} (g : I
 
   -- a row that is on the list after the swing was not passed by
   pub swing-over : {y : ℕ} → w .Pub y → Reach (put w f P) y 1 → w .rank p < w .rank y → w .rank e ≤ w .rank y
-  swing-over {y} k t h = past (reach-linear swing-good (swing-good .one) (swing-p .reach not-low (omega (arith, m .high)) (rw (m .write .at) (omega (arith, m .above)))) t (omega arith))
+  swing-over {y} k t h =
+      let to-p = swing-p .reach not-low (omega (arith, m .high)) (rw (m .write .at) (omega (arith, m .above))) in
+      past (reach-linear swing-good (swing-good .one) to-p t (omega arith))
     where
       at-v : (v ≡ e) ⊎ FreshItem w e v → Reach (put w f P) y v → w .rank e ≤ w .rank y
       at-v (inl q) s = reach-le swing-good (row-put (m .write) (ahead .0)) (subst (Reach (put w f P) y) q s)

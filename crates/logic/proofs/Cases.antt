@@ -22,3 +22,8 @@ by-test P false f g = g refl
 -- what holds of a choice by a test: it is enough to prove it of each value, knowing what the test said
 pub on-cond : {A : Type 0} (P : A → Type 0) (b : Bool) (x y : A) → (b ≡ true → P x) → (b ≡ false → P y) → P (cond b x y)
 on-cond P b x y f g = by-test (λ t. P (cond t x y)) b f g
+
+-- two choices that differ only in the value that is taken where the test fails
+pub cond-same : {A : Type 0} (test : Bool) (x y z : A) → (test ≡ false → y ≡ z) → cond test x y ≡ cond test x z
+cond-same true x y z same = refl
+cond-same false x y z same = same refl

@@ -13,6 +13,10 @@ and-right true b h = h
 and-right false true h = refl
 and-right false false h = h
 
+-- and the two together
+pub and-parts : (a b : Bool) → a && b ≡ true → (a ≡ true) × (b ≡ true)
+and-parts a b h = (and-left a b h, and-right a b h)
+
 pub and-both : {a b : Bool} → a ≡ true → b ≡ true → a && b ≡ true
 and-both p q = rw p q
 

@@ -1,4 +1,5 @@
--- Lists of keys: that one rises, what is in it, a key put in its place, a key taken out, how many keys of one are not in another.
+-- Lists of keys: that one rises, what is in it, a key put in its place, a key taken out,
+-- how many keys of one are not in another.
 use Prim.{Unit}
 use mathlib.Core.List.{List, [], _∷_}
 use mathlib.Core.Bool.{Bool, false, cond, _||_}

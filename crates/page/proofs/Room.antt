@@ -11,6 +11,7 @@ use lib.ListN.{length, take, set, length-set, length-append}
 use lib.Seq.{sets, sets-eq, take-set-le}
 use lib.Dec.{ltb}
 use borrow.Author.Tests.{lt-ltb}
+use Rattle.logic.proofs.Cases.{on-cond}
 use Rattle.page.specs.Page.{Page, page, putByte, put, digits}
 use Rattle.page.specs.Claims.{Room, KeepsBefore, DigitsAreFew, DecimalIsWhole}
 
@@ -55,17 +56,13 @@ keeps-before out bytes at after wrote =
 
 -- ---- numbers
 
-short-cond : (b : Bool) (x y : List ℕ) (k : ℕ) → length x ≤ k → length y ≤ k → length (cond b x y) ≤ k
-short-cond true x y k p q = p
-short-cond false x y k p q = q
-
 pub digits-are-few : DigitsAreFew
 unfolding digits
 digits-are-few zero n = omega arith
 digits-are-few (suc most) n =
     let fewer = digits-are-few most (n / 10) in
-    short-cond (ltb n 10) ((48 + n) ∷ []) (digits most (n / 10) ++ ((48 + n % 10) ∷ [])) (suc most) (omega arith)
-    (simp length-append (omega arith))
+    on-cond (λ l. length l ≤ suc most) (ltb n 10) ((48 + n) ∷ []) (digits most (n / 10) ++ ((48 + n % 10) ∷ []))
+    (λ one. omega arith) (λ more. simp length-append (omega arith))
 
 -- a number below a power of ten has no more digits than the power has zeros
 digits-enough : (k n more : ℕ) → n < 10 ^ suc k → digits (suc k + more) n ≡ digits (suc k) n

@@ -5,7 +5,8 @@ use Prim.Native.Nat.{ℕ, _+_, _^_, _<_, _≤_}
 use lib.ListN.{length, take, drop}
 use Rattle.page.specs.Page.{Page, page, Wrote, digits, decimal}
 
--- with room for them the bytes stand where they were put, every other byte is as before, and the place is the one behind them
+-- with room for them the bytes stand where they were put, every other byte is as before,
+-- and the place is the one behind them
 abbrev pub Room : Type 0
 Room = (out bytes : List ℕ) (at : ℕ) (after : Page) → at + length bytes ≤ length out → Wrote (page out at) bytes after →
     after ≡ page (take at out ++ bytes ++ drop (at + length bytes) out) (at + length bytes)

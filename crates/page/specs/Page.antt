@@ -5,6 +5,8 @@ use mathlib.Core.Bool.{cond}
 use Prim.Native.Nat.{ℕ, zero, suc, _+_, _/_, _%_}
 use lib.ListN.{length, set}
 use lib.Dec.{ltb}
+use denote.Ref.{RefT, now}
+use denote.Triple.Both.{Both}
 
 -- a buffer, and the place of the next byte
 pub record Page : Type 0 where
@@ -26,6 +28,16 @@ put p (byte ∷ rest) = put (putByte p byte) rest
 -- one page comes from another by writing these bytes, as far as they have room, and nothing else
 pub record Wrote (before : Page) (bytes : List ℕ) (after : Page) : Type 0 where
   pub path : after ≡ put before bytes
+
+-- ---- contracts
+
+-- a lent buffer, as it came and as it is left
+abbrev pub Buffer : Type 0
+Buffer = Both (RefT (List ℕ)) (RefT (List ℕ))
+
+-- from this place on these bytes are put into the buffer, and the next byte goes to the last place
+abbrev pub Puts : Buffer → (to : ℕ) → (bytes : List ℕ) → (next : ℕ) → Type 0
+Puts out to bytes next = Wrote (page (now (out .entry)) to) bytes (page (now (out .exit)) next)
 
 -- ---- numbers
 

@@ -21,7 +21,8 @@ answer-past (accepted done) value answer e = (refl, cc)
 answer-past (refused number) value answer e = absurd (not-both (sym e))
 
 -- memory is changed only where the tests pass
-pub change-past : {M A : Type 0} (tests : Tests) (found : M) (changed : Left M A) (value : A) → leaving tests found changed .answer ≡ accepted value → tests ≡ passed
+pub change-past : {M A : Type 0} (tests : Tests) (found : M) (changed : Left M A) (value : A) →
+    leaving tests found changed .answer ≡ accepted value → tests ≡ passed
 change-past (accepted done) found changed value e = refl
 change-past (refused number) found changed value e = absurd (not-both (sym e))
 

@@ -1,7 +1,7 @@
 -- The turns that the two readings of a body are allowed are enough, and a good head sets what a list can be set up with.
 -- Assumes nothing.
-use mathlib.Core.Path.{_≡_, refl, ap, sym}
-use mathlib.Core.Bool.{Bool, true, false, cond, _&&_, _||_, true≢false}
+use mathlib.Core.Path.{_≡_, refl, ap}
+use mathlib.Core.Bool.{Bool, true, false, cond, _&&_, _||_}
 use mathlib.Core.List.{List, _∷_}
 use Prim.Native.Nat.{ℕ, zero, suc, _+_, _*_, _<_, _≤_}
 use native.Mathlib.Nat.{suc-add}
@@ -11,6 +11,8 @@ use lib.Dec.{eqb, leb}
 use borrow.Author.Tests.{leb-true, eqb-false}
 use Rattle.text.specs.Reading.{lost, word, only, numeral, numberAt}
 use Rattle.logic.specs.Quoted.{bytes}
+use Rattle.logic.proofs.Cases.{cond-same}
+use Rattle.logic.proofs.Tests.{and-parts}
 use Rattle.script.specs.Lines.{lineAt, endsBody, nextOf}
 use Rattle.script.specs.Head.{partiesLine, rowsOf, nodesLine, orderLine, firstLost, headOf}
 use Rattle.script.specs.Body.{mostLines, bodyFrom, badFrom}
@@ -23,11 +25,6 @@ use Rattle.script.proofs.Reach.{found, here, onward, parties-reach, nod
 abbrev Same : List ℕ → (more turns seen at : ℕ) → Type 0
 Same text more turns seen at =
     (badFrom text seen at (turns + more) ≡ badFrom text seen at turns) × (bodyFrom text at (turns + more) ≡ bodyFrom text at turns)
-
--- a branch that matters only where the test fails
-cond-same : {A : Type 0} (d : Bool) (x y z : A) → (d ≡ false → y ≡ z) → cond d x y ≡ cond d x z
-cond-same true x y z h = refl
-cond-same false x y z h = h refl
 
 -- turns that reach past the end of the text are enough
 enough : (text : List ℕ) → length text < lost → (more turns seen at : ℕ) → at ≤ length text → length text < at + 6 * turns
@@ -84,18 +81,14 @@ held : (t : Bool) (at : ℕ) → eqb (only t at) lost ≡ false → t ≡ true
 held true at e = refl
 held false at e = absurd (eqb-false lost lost e refl)
 
-pub both : (a b : Bool) → a && b ≡ true → (a ≡ true) × (b ≡ true)
-both true b e = (refl, e)
-both false b e = absurd (true≢false (sym e))
-
 parties-good : (text : List ℕ) → eqb (partiesLine text .next) lost ≡ false
     → (1 ≤ partiesLine text .value) × (partiesLine text .value ≤ 16)
 unfolding partiesLine
-parties-good text e = let w = both _ _ (held _ _ e) in (leb-true _ _ (w .0), leb-true _ _ (w .1))
+parties-good text e = let w = and-parts _ _ (held _ _ e) in (leb-true _ _ (w .0), leb-true _ _ (w .1))
 
 rows-good : (v : ℕ) (z : Bool) → z || (leb 4 v && leb v 4096) ≡ true → (4 ≤ cond z 64 v) × (cond z 64 v ≤ 4096)
 rows-good v true e = (omega arith, omega arith)
-rows-good v false e = let w = both (leb 4 v) (leb v 4096) e in (leb-true 4 v (w .0), leb-true v 4096 (w .1))
+rows-good v false e = let w = and-parts (leb 4 v) (leb v 4096) e in (leb-true 4 v (w .0), leb-true v 4096 (w .1))
 
 nodes-good : (text : List ℕ) (at : ℕ) → eqb (nodesLine text at .next) lost ≡ false
     → (4 ≤ nodesLine text at .value) × (nodesLine text at .value ≤ 4096)

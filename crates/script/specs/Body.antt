@@ -1,4 +1,5 @@
--- The lines between the head and `end=`, and the first line of a text that breaks the rules (document 01, "The schedule program").
+-- The lines between the head and `end=`, and the first line of a text that breaks the rules
+-- (document 01, "The schedule program").
 use mathlib.Core.List.{List, [], _∷_}
 use mathlib.Core.Bool.{cond}
 use Prim.Native.Nat.{ℕ, zero, suc, _+_, _/_}
@@ -9,14 +10,17 @@ use Rattle.script.specs.declared.Head.{Head}
 use Rattle.script.specs.declared.Line.{Line}
 use Rattle.script.specs.declared.Line.the-variants.{Call, Step, End, Bad}
 
--- no good line is shorter than `end=0` with its LF, so no more good lines than this stand in a text (`FuelNeverDecides` in Claims)
+-- no good line is shorter than `end=0` with its LF, so no more good lines than this stand in a text
+-- (`FuelNeverDecides` in Claims)
 unfoldable pub mostLines : List ℕ → ℕ
 mostLines text = length text / 6
 
 -- the calls and steps from a place on, at most so many
 unfoldable pub bodyFrom : List ℕ → (at left : ℕ) → List Line
 bodyFrom text at zero = []
-bodyFrom text at (suc left) = let line = lineAt text at in cond (endsBody line) [] (line ∷ bodyFrom text (nextOf line) left)
+bodyFrom text at (suc left) =
+    let line = lineAt text at in
+    cond (endsBody line) [] (line ∷ bodyFrom text (nextOf line) left)
 
 -- ---- the first bad line, or 0
 
@@ -35,7 +39,8 @@ lastBad seen Bad len = seen + 4
 unfoldable pub badFrom : List ℕ → (seen at left : ℕ) → ℕ
 badFrom text seen at zero = seen + 4
 badFrom text seen at (suc left) =
-    let line = lineAt text at in cond (endsBody line) (lastBad seen line (length text)) (badFrom text (seen + 1) (nextOf line) left)
+    let line = lineAt text at in
+    cond (endsBody line) (lastBad seen line (length text)) (badFrom text (seen + 1) (nextOf line) left)
 
 -- of a whole text, whose head this is: the head comes first
 unfoldable pub firstBad : List ℕ → Head → ℕ

@@ -7,7 +7,8 @@ use Rattle.text.specs.Reading.{lost}
 use Rattle.script.specs.Head.{headOf}
 use Rattle.script.specs.Body.{mostLines, bodyFrom, badFrom}
 
--- behind a good head, in a text as long as a slice can be, the number of turns that the two readings of a body are allowed never decides: with more of them they find the same
+-- behind a good head, in a text as long as a slice can be, the number of turns that the two readings of a body
+-- are allowed never decides: with more of them they find the same
 abbrev pub FuelNeverDecides : Type 0
 FuelNeverDecides = (text : List ℕ) (more : ℕ) → length text < lost → headOf text .bad ≡ 0 →
     let from = headOf text .next in
@@ -17,4 +18,6 @@ FuelNeverDecides = (text : List ℕ) (more : ℕ) → length text < lost → hea
 -- a good head sets what a list can be set up with, and names one of the two orders
 abbrev pub GoodHead : Type 0
 GoodHead = (text : List ℕ) → length text < lost → headOf text .bad ≡ 0 →
-    (1 ≤ headOf text .parties) × (headOf text .parties ≤ 16) × (4 ≤ headOf text .nodes) × (headOf text .nodes ≤ 4096) × (headOf text .order < 2)
+    (1 ≤ headOf text .parties) × (headOf text .parties ≤ 16)
+    × (4 ≤ headOf text .nodes) × (headOf text .nodes ≤ 4096)
+    × (headOf text .order < 2)

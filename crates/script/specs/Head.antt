@@ -23,7 +23,8 @@ rowsOf nodes = cond (eqb nodes 0) 64 nodes
 unfoldable pub nodesLine : List ℕ → ℕ → Number
 nodesLine text at =
     let n = numberAt text (word text at (bytes "nodes=")) in
-    numeral (rowsOf (n .value)) (only (eqb (n .value) 0 || (leb 4 (n .value) && leb (n .value) 4096)) (lineEnd text (n .next)))
+    numeral (rowsOf (n .value))
+    (only (eqb (n .value) 0 || (leb 4 (n .value) && leb (n .value) 4096)) (lineEnd text (n .next)))
 
 -- order=big is order code 0, order=little is 1
 unfoldable pub orderLine : List ℕ → ℕ → Number

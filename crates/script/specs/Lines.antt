@@ -48,7 +48,8 @@ callLine text at =
 
 unfoldable pub stepLine : List ℕ → ℕ → Number
 stepLine text at =
-    let n = numberAt text (word text at (bytes "step=")) in numeral (n .value) (only (leb (n .value) 99) (lineEnd text (n .next)))
+    let n = numberAt text (word text at (bytes "step=")) in
+    numeral (n .value) (only (leb (n .value) 99) (lineEnd text (n .next)))
 
 -- ---- end= with a number
 

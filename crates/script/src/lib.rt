@@ -1,4 +1,5 @@
-// The lines of a schedule: one line at a place, the head, and the first line that breaks the rules. Nothing here knows what a list is.
+// The lines of a schedule: one line at a place, the head, and the first line that breaks the rules.
+// Nothing here knows what a list is.
 use text::LOST;
 use text::Number;
 ghost use mathlib.Core.Path.{_≡_};
@@ -233,7 +234,8 @@ pub fn read_head(text: &[u8]) -> Head
     }
 }
 
-// The bad line that an `end=` behind so many lines leads to, or 0: itself if its number is wrong, the next one if bytes follow.
+// The bad line that an `end=` behind so many lines leads to, or 0: itself if its number is wrong,
+// the next one if bytes follow.
 fn end_bad(seen: usize, count: u32, next: usize, len: usize) -> usize
     requires { ⌜ seen < 9223372036854775808 ⌝ }
     ensures { λ r. ⌜ r ≡ endBad seen count next len ⌝ }

@@ -1,5 +1,6 @@
--- Reading at a place of a text (document 01, "The schedule program"). A reading that fails goes to `lost`, a place past the end of every text,
--- where every later reading fails too: so a line that is broken anywhere ends at `lost`.
+-- Reading at a place of a text (document 01, "The schedule program"). A reading that fails goes to `lost`,
+-- a place past the end of every text, where every later reading fails too:
+-- so a line that is broken anywhere ends at `lost`.
 use mathlib.Core.List.{List, [], _∷_}
 use mathlib.Core.Bool.{Bool, cond}
 use Prim.Native.Nat.{ℕ, _+_, _-_, _*_}
@@ -41,7 +42,9 @@ numeral value next = record { value = value; next = next }
 
 -- a number starts with a digit
 abbrev pub firstDigit : List ℕ → ℕ → Number
-firstDigit text at = let d = digitOf (byteAt text at) in cond (ltb d 10) (numeral d (placeAfter text at)) (numeral 0 lost)
+firstDigit text at =
+    let d = digitOf (byteAt text at) in
+    cond (ltb d 10) (numeral d (placeAfter text at)) (numeral 0 lost)
 
 -- one digit more, where one stands: but none behind a 0 in front, and none behind five digits
 unfoldable pub nextDigit : List ℕ → Number → Number
@@ -51,7 +54,8 @@ nextDigit text n =
     (cond (ltb (n .value) 10000)
     (cond (ltb d 10) (numeral (n .value * 10 + d) (placeAfter text (n .next))) n) n)
 
--- Up to five digits are read. No number of a good line in a text of at most 65,536 bytes has more, and a sixth digit stands where the line has to end.
+-- Up to five digits are read. No number of a good line in a text of at most 65,536 bytes has more,
+-- and a sixth digit stands where the line has to end.
 abbrev pub numberAt : List ℕ → ℕ → Number
 numberAt text at = nextDigit text (nextDigit text (nextDigit text (nextDigit text (firstDigit text at))))
 
@@ -76,7 +80,8 @@ pairAt text at =
     let second = placeAfter text at in
     let high = hexOf (byteAt text at) in
     let low = hexOf (byteAt text second) in
-    cond (ltb high 16) (cond (ltb low 16) (record { value = high * 16 + low; next = placeAfter text second }) noPair) noPair
+    cond (ltb high 16)
+    (cond (ltb low 16) (record { value = high * 16 + low; next = placeAfter text second }) noPair) noPair
 
 -- four of them are a field
 unfoldable pub fieldAt : List ℕ → ℕ → Field

@@ -1,4 +1,5 @@
-// Reading at a place of a text: words, decimal numbers, fields of eight hex digits. A reading that fails goes to LOST, where every later one fails too.
+// Reading at a place of a text: words, decimal numbers, fields of eight hex digits.
+// A reading that fails goes to LOST, where every later one fails too.
 ghost use mathlib.Core.Path.{_≡_};
 ghost use Rattle.text.specs.Reading.{
   byteAt,
@@ -106,7 +107,8 @@ fn first_digit(text: &[u8], at: usize) -> Number
     }
 }
 
-// One digit more where one stands. No digit goes behind a 0 in front, and none behind five: so no number has a leading zero, and none can wrap.
+// One digit more where one stands. No digit goes behind a 0 in front, and none behind five:
+// so no number has a leading zero, and none can wrap.
 fn next_digit(text: &[u8], n: Number) -> Number
     ensures { λ r. ⌜ r ≡ nextDigit (now (text .entry)) n ⌝ }
 {
@@ -127,7 +129,8 @@ fn next_digit(text: &[u8], n: Number) -> Number
     n
 }
 
-// The decimal number that stands here. Of a longer one only five digits are read, and what follows is then no end of a line.
+// The decimal number that stands here. Of a longer one only five digits are read,
+// and what follows is then no end of a line.
 pub fn read_number(text: &[u8], at: usize) -> Number
     ensures { λ r. ⌜ r ≡ numberAt (now (text .entry)) at ⌝ }
 {

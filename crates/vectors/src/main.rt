@@ -1,4 +1,5 @@
-// The stored schedules: runs each through `replay`, holds its whole output to the stored one byte for byte, and prints a line a group and a total.
+// The stored schedules: runs each through `replay`, holds its whole output to the stored one byte for byte,
+// and prints a line a group and a total.
 use check::same;
 use libc::STDOUT_FILENO;
 use list_replay::replay;
@@ -197,7 +198,8 @@ fn run_one(name: &[u8], c: Course, text: &mut [u8], out: &mut [u8], want: &mut [
     }
 }
 
-// The line of the index from `at` up to `end`: `[NAME]` ends the open group and opens another, anything else is a schedule.
+// The line of the index from `at` up to `end`: `[NAME]` ends the open group and opens another,
+// anything else is a schedule.
 fn run_line(
     index: &[u8],
     at: usize,
@@ -219,7 +221,8 @@ fn run_line(
     run_one(&index[at..end], c, text, out, want)
 }
 
-// Runs every line of the first n bytes of the index. An index that fills its room may be cut short, and none of it is run.
+// Runs every line of the first n bytes of the index.
+// An index that fills its room may be cut short, and none of it is run.
 fn run_all(index: &[u8], n: usize, text: &mut [u8], out: &mut [u8], want: &mut [u8]) -> Course {
     let mut c = opened(0, 0, none());
     let mut at = 0;

@@ -9,4 +9,8 @@ returns : tie.Need-returns
 returns c = let s = c .before .before .before .before in four-read (s .args .bytes .now) (s .args .place) (s .pre)
 
 pub four-at-spec : {M : Type 1} → statement M
-four-at-spec = tie.close (tie.spec (λ c. search needs) (λ c. search needs) (λ c. search needs) (λ c. search needs) (λ c. search needs) (λ c. search needs) (λ c. search needs) returns)
+four-at-spec =
+    tie.close
+    (tie.spec
+    (λ c. search needs) (λ c. search needs) (λ c. search needs) (λ c. search needs)
+    (λ c. search needs) (λ c. search needs) (λ c. search needs) returns)

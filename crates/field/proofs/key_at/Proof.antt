@@ -8,8 +8,8 @@ use Rattle.field.proofs.key_at.Tie as tie
 returns : tie.Need-returns
 returns c =
     let a = c .before .before .before .before .args in
-    key-held (a .order) (a .bytes .now) (a .place) (c .before .before .four-at .result) (c .before .turn .result)
-    (c .before .before .four-at .ensures) (c .before .turn .ensures) (c .join .ensures)
+    key-held (a .order) (a .bytes .now) (a .place) (c .before .before .four-at .result) (c .before .arrange .result)
+    (c .before .before .four-at .ensures) (c .before .arrange .ensures) (c .join .ensures)
 
 pub key-at-spec : {M : Type 1} → statement M
 key-at-spec = tie.close (tie.spec (λ c κs. search needs) (λ c κs. search needs) (λ c κs. search needs) returns)

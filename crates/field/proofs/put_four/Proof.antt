@@ -17,4 +17,8 @@ returns c =
     (four-written (start .args .bytes .now) (start .args .place) (four .0) (four .1) (four .2) (four .3) (start .pre))
 
 pub put-four-spec : {M : Type 1} → statement M
-put-four-spec = tie.close (tie.spec (λ c κs. search needs) (λ c. search needs) (λ c κs. search needs) (λ c. search needs) (λ c κs. search needs) (λ c. search needs) (λ c κs. search needs) (λ c. search needs) returns)
+put-four-spec =
+    tie.close
+    (tie.spec
+    (λ c κs. search needs) (λ c. search needs) (λ c κs. search needs) (λ c. search needs)
+    (λ c κs. search needs) (λ c. search needs) (λ c κs. search needs) (λ c. search needs) returns)

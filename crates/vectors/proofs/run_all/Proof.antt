@@ -23,7 +23,8 @@ loop-again : tie.Need-loop-again Inv-loop μ-loop
 loop-again c =
     let c6 = c .before .before .before .before .before .before in
     let c12 = c6 .before .before .before .before .before .before in
-    (c6 .run-line .kept .1 .1 .1 .1 .0 ∙ c12 .loop .inv .0, c6 .run-line .kept .1 .1 .1 .1 .1 .0 ∙ c12 .loop .inv .1, c6 .run-line .kept .1 .1 .1 .1 .1 .1 .0 ∙ c12 .loop .inv .2)
+    let buffers = c6 .run-line .kept .1 .1 .1 .1 in
+    (buffers .0 ∙ c12 .loop .inv .0, buffers .1 .0 ∙ c12 .loop .inv .1, buffers .1 .1 .0 ∙ c12 .loop .inv .2)
 
 pub run-all-spec : {M : Type 1} → statement M
 run-all-spec =

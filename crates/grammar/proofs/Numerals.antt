@@ -15,7 +15,7 @@ use borrow.Author.Tests.{lt-ltb, le-ltb, ne-eqb}
 use Rattle.text.specs.declared.Number.{Number}
 use Rattle.text.specs.Reading.{byteAt, placeAfter, digitOf, numeral, firstDigit, nextDigit}
 use Rattle.page.specs.Page.{digits, decimal}
-use Rattle.grammar.specs.Spelled.{ReadsBack}
+use Rattle.grammar.specs.Numerals.{ReadsBack}
 
 -- ---- one digit
 
