@@ -33,6 +33,8 @@ use Rattle.list_moves.specs.Moves.{
   prepareOf,
   onwardOf,
   landedAddOf,
+  landedUnmarkedOf,
+  landedMarkedOf,
   landedRemoveOf,
   landedContainsOf,
   walkOf,
@@ -42,6 +44,7 @@ use Rattle.list_moves.specs.Moves.{
   rereadOf,
   cleanOf,
   backOf,
+  lookOnOf,
   lookOf,
   placeOf,
 }
@@ -215,7 +218,7 @@ module _ (T : ℕ) (t : Table) (g : Rows T t) where
         (fit (omega arith) (omega arith) refl refl (f .keeps-own))))
 
     walk-remove : (k : ℕ) → Fits T (who (Walk Remove k) true) → FitMove T (walkOf t (who (Walk Remove k) true) Remove k)
-    unfolding walkOf onwardOf landedRemoveOf
+    unfolding walkOf onwardOf landedRemoveOf landedUnmarkedOf
     walk-remove k f =
         let s₁ : nextAt t c < T = next-below c (f .below .c) in
         let s₂ : nextAt t (nextAt t c) < T = next-below (nextAt t c) s₁ in
@@ -228,13 +231,13 @@ module _ (T : ℕ) (t : Table) (g : Rows T t) where
         (either (not (equalsKey t c k) || isSplice t (nextAt t c)) no (fit (omega arith) (omega arith) refl refl (f .keeps-own)))
 
     walk-marked : (k : ℕ) → Fits T (who (Walk Remove k) false) → FitMove T (walkOf t (who (Walk Remove k) false) Remove k)
-    unfolding walkOf onwardOf landedRemoveOf
+    unfolding walkOf onwardOf landedRemoveOf landedMarkedOf
     walk-marked k f =
         let s₁ : nextAt t c < T = next-below c (f .below .c) in
         let s₂ : nextAt t (nextAt t c) < T = next-below (nextAt t c) s₁ in
         either (belowKey t c k)
         (either (isSplice t (nextAt t c)) (fit tt (omega arith) refl refl (f .keeps-own)) (fit tt (omega arith) refl refl (f .keeps-own)))
-        (either (eqb (nextAt t c) own) (fit tt (omega arith) refl refl (f .keeps-own)) (fit tt (omega arith) refl refl refl))
+        (either (not (eqb (nextAt t c) own)) (fit tt (omega arith) refl refl refl) (fit tt (omega arith) refl refl (f .keeps-own)))
 
     skip : (k : ℕ) → Fits T (who (Skip Add k) true) → FitMove T (skipOf t (who (Skip Add k) true) Add k)
     unfolding skipOf prepareOf
@@ -281,7 +284,7 @@ module _ (T : ℕ) (t : Table) (g : Rows T t) where
         either (isSplice t (nextAt t p)) (fit tt (omega arith) refl refl (f .keeps-own)) (fit tt (omega arith) refl refl (f .keeps-own))
 
     look : (k : ℕ) (unpublished : Bool) → Fits T (who (Look Contains k) unpublished) → FitMove T (lookOf t (who (Look Contains k) unpublished) Contains k)
-    unfolding lookOf landedContainsOf
+    unfolding lookOf lookOnOf landedContainsOf
     look k unpublished f =
         let s₁ : nextAt t c < T = next-below c (f .below .c) in
         let s₂ : nextAt t (nextAt t c) < T = next-below (nextAt t c) s₁ in

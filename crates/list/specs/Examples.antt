@@ -1,6 +1,6 @@
 -- Refusals, the ends of their ranges and listings in numbers, computed by the checker. (E1 to E11 of document 01: `examples`.)
 use mathlib.Core.Path.{_≡_}
-use mathlib.Core.List.{[], _∷_}
+use mathlib.Core.List.{List, [], _∷_}
 use Prim.Native.Nat.{ℕ}
 use mathlib.Core.Bool.{true}
 use Rattle.refusal.specs.Answer.{accepted, refused, left, passed}
@@ -51,9 +51,9 @@ SetUps =
 -- a table of two items, rows 4 and 5, linked in that order
 abbrev pub pair : (first second : ℕ) → Machine
 pair first second =
-    let kinds = 1 ∷ 1 ∷ 1 ∷ 1 ∷ 2 ∷ 2 ∷ [] in
-    let keys = 0 ∷ 0 ∷ 0 ∷ 0 ∷ first ∷ second ∷ [] in
-    let nexts = 1 ∷ 4 ∷ 3 ∷ 3 ∷ 5 ∷ 2 ∷ [] in
+    let kinds : List ℕ = 1 ∷ 1 ∷ 1 ∷ 1 ∷ 2 ∷ 2 ∷ [] in
+    let keys : List ℕ = 0 ∷ 0 ∷ 0 ∷ 0 ∷ first ∷ second ∷ [] in
+    let nexts : List ℕ = 1 ∷ 4 ∷ 3 ∷ 3 ∷ 5 ∷ 2 ∷ [] in
     machine (tab kinds keys nexts (zeros 6)) (restingState 1 6)
 
 -- good form says nothing of sorting, but a listing has to rise: equal neighbours are refused with 3; two places are enough for

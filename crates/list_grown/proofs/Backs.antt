@@ -100,4 +100,5 @@ fresh-backed rows = record {
 }
 
 pub backs : Backs
-backs t parties history g = run-keeps history (start t parties) (rw (start-is t parties (g .set)) (fresh-backed (rowsIn t))) .none
+backs came parties history g =
+    run-keeps history (start came parties) (rw (start-is came parties (g .set)) (fresh-backed (rowsIn (came .table)))) .none

@@ -18,10 +18,12 @@ use Rattle.list_party.specs.declared.Place.the-variants.{Idle, Walk, Skip, AddS
 use Rattle.list_party.specs.declared.Party.{Party}
 use Rattle.calls.specs.declared.Access.{Access}
 use Rattle.calls.specs.declared.Access.the-variants.{None, Read, Won, Lost}
-use Rattle.list_party.specs.Party.{idling, published, walking, adding, backing, marking, rereading, cleaning}
+use Rattle.list_party.specs.Party.{idling, published}
+use Rattle.list_grown.proofs.Places.{walking, adding, backing, marking, rereading, cleaning}
 use Rattle.calls.specs.declared.Said.{Said}
 use Rattle.list_moves.specs.declared.Moved.{Moved}
-use Rattle.list_moves.specs.Moves.{reads, answers, wins, loses}
+use Rattle.list_moves.specs.Moves.{goesOn, readies, answers}
+use Rattle.list_grown.proofs.Places.{wins, loses}
 use Rattle.list_unchecked.specs.Unchecked.{Machine, partyOf}
 use Rattle.list_form.specs.Form.{removing}
 use Rattle.logic.specs.Sum.{oneIf}
@@ -29,7 +31,7 @@ use Rattle.list_world.proofs.World.{World, Intact}
 use Rattle.list_world.proofs.Walk.{OnWay}
 use Rattle.logic.proofs.Cases.{by-row}
 use Rattle.list_world.proofs.WalkLaws.{at-c}
-use Rattle.list_grown.specs.Deeds.{Deed, called, read, added, marked, cleaned, lost, deedCounts}
+use Rattle.list_grown.specs.Deeds.{Deed, called, read, addWon, markWon, cleanWon, lost, deedCounts}
 use Rattle.list_grown.proofs.Party.{At}
 use Rattle.list_grown.proofs.View.{Inv}
 use Rattle.list_grown.proofs.Machine.{viewOf, worldOf, insOf, outsOf}
@@ -131,9 +133,9 @@ owes l unpublished = oneIf (removing l && not unpublished)
 abbrev pub accessOf : Deed → Access
 accessOf called = None
 accessOf read = Read
-accessOf (added key) = Won
-accessOf (marked key) = Won
-accessOf cleaned = Won
+accessOf (addWon key) = Won
+accessOf (markWon key) = Won
+accessOf cleanWon = Won
 accessOf lost = Lost
 
 -- a move makes no item: only a call does
@@ -173,7 +175,7 @@ module _ (orphan : ℕ → Bool) (m : Machine) (v : Inv (viewOf orphan m)) (i : 
   goes : (l : Place) (q′ : Party) (write : Write) → NoItem write → ((y : ℕ) → w .Pub y → nextAt (written write t) y ≡ nextAt t y)
       → stale (λ row. nextAt (written write t) row) q′ (q′ .place) ≤ stale (λ row. nextAt t row) q l →
       owes (q′ .place) (q′ .unpublished) ≤ owes l (q .unpublished) → q′ .unpublished ≡ q .unpublished
-      → Books l (reads q′ write) read
+      → Books l (readies q′ write) read
   goes l q′ write plain a b c e = record {
     access = refl;
     plain = plain;
@@ -185,7 +187,7 @@ module _ (orphan : ℕ → Bool) (m : Machine) (v : Inv (viewOf orphan m)) (i : 
   }
 
   walks : (l : Place) (q′ : Party) → stale (λ row. nextAt t row) q′ (q′ .place) ≤ stale (λ row. nextAt t row) q l
-      → owes (q′ .place) (q′ .unpublished) ≤ owes l (q .unpublished) → q′ .unpublished ≡ q .unpublished → Books l (reads q′ Untouched) read
+      → owes (q′ .place) (q′ .unpublished) ≤ owes l (q .unpublished) → q′ .unpublished ≡ q .unpublished → Books l (goesOn q′) read
   walks l q′ b c e = goes l q′ Untouched tt (λ y k. refl) b c e
 
   says : (l : Place) (said : Said) → Books l (answers q said) read
@@ -215,16 +217,16 @@ module _ (orphan : ℕ → Bool) (m : Machine) (v : Inv (viewOf orphan m)) (i : 
   own-off u y f k = getD-set-other (t .next) (q .own) y u 0 (λ e. k .1 i (f, sym e))
 
   prepares : (l : Place) (k : ℕ) → OnWay w (3 + k) (q .p) (q .n) (q .c) → q .unpublished ≡ true → miss (w .next (q .p)) (q .n) ≤ stale (w .next) q l →
-      Books l (reads (adding q Add k (q .p) (q .n)) (Link (q .own) (q .c))) read
+      Books l (readies (adding q Add k (q .p) (q .n)) (Link (q .own) (q .c))) read
   prepares l k W f b = goes l (adding q Add k (q .p) (q .n)) (Link (q .own) (q .c)) tt (λ y n. own-off (q .c) y f n)
       (rw (own-off (q .c) (q .p) f (W .behind .row .known)) b) (omega arith) refl
 
   -- a party that comes to MARK has just read s
-  readies : (l : Place) (k : ℕ) (write : Write) → NoItem write → OnWay w (3 + k) (q .p) (q .n) (q .c) →
+  to-mark : (l : Place) (k : ℕ) (write : Write) → NoItem write → OnWay w (3 + k) (q .p) (q .n) (q .c) →
       ((y : ℕ) → w .Pub y → nextAt (written write t) y ≡ nextAt t y) →
       miss (w .next (q .p)) (q .n) ≤ stale (w .next) q l → oneIf (not (q .unpublished)) ≤ owes l (q .unpublished) →
-      Books l (reads (marking q Remove k (q .p) (q .n) (q .c) (nextAt t (q .c))) write) read
-  readies l k write plain W e b c = goes l (marking q Remove k (q .p) (q .n) (q .c) (nextAt t (q .c))) write plain e
+      Books l (readies (marking q Remove k (q .p) (q .n) (q .c) (nextAt t (q .c))) write) read
+  to-mark l k write plain W e b c = goes l (marking q Remove k (q .p) (q .n) (q .c) (nextAt t (q .c))) write plain e
       (rw (e (q .p) (W .behind .row .known), e (q .c) (at-c (v .good) W .0 .known), miss-same (w .next (q .c)) (w .next (q .c)) refl) (omega arith)) c refl
 
   -- a swap that is lost was bound to be
@@ -243,21 +245,21 @@ module _ (orphan : ℕ → Bool) (m : Machine) (v : Inv (viewOf orphan m)) (i : 
   does-booked (add-ready b n) a = prepares _ _ (a .0) (a .1 .hidden) (le-refl _)
   does-booked (cut-other f b n) a = says _ _
   does-booked (cut-late f b k) a = says _ _
-  does-booked (cut-ready {k} f b o) a = readies (Walk Remove k) k _ tt (a .0) (λ y n. own-off _ y f n) (le-refl _) (le-refl _)
+  does-booked (cut-ready {k} f b o) a = to-mark (Walk Remove k) k _ tt (a .0) (λ y n. own-off _ y f n) (le-refl _) (le-refl _)
   does-booked (cut-again f b d) a = walks _ _ (le-refl _) (le-refl _) refl
   does-booked (cut-done f b n) a = says _ _
   does-booked (skips k) a = walks _ _ (le-refl _) (le-refl _) refl
   does-booked (skip-ends o) a = prepares _ _ (a .0) (a .2 .hidden) (le-refl _)
-  does-booked (add-wins {k} d) a = made (AddSwap Add k) (idling (published q)) _ _ _ (added k) refl refl refl (omega arith) (omega arith) (rw (a .2 .hidden))
+  does-booked (add-wins {k} d) a = made (AddSwap Add k) (idling (published q)) _ _ _ (addWon k) refl refl refl (omega arith) (omega arith) (rw (a .2 .hidden))
   does-booked (add-loses {k} n) a = fails (AddSwap Add k) (backing q Add k (q .p)) (omega (arith, bound (w .next (q .p)) (q .n) n)) (le-refl _) refl
-  does-booked (mark-wins {k} d) a = made (Mark Remove k) (cleaning (published q) Remove k (q .p) (q .n) (q .s)) _ (q .c) (q .own) (marked k) refl refl refl
+  does-booked (mark-wins {k} d) a = made (Mark Remove k) (cleaning (published q) Remove k (q .p) (q .n) (q .s)) _ (q .c) (q .own) (markWon k) refl refl refl
       (rw (getD-set-other (t .next) (q .c) (q .p) (q .own) 0 (λ d. omega (arith, ap (w .rank) d, a .0 .behind .low, a .1))) (omega arith)) (omega arith) (rw (a .2 .hidden))
   does-booked (mark-loses {k} n) a =
       fails (Mark Remove k) (rereading q Remove k (q .p) (q .n) (q .c)) (omega (arith, bound (w .next (q .c)) (q .s) n)) (le-refl _) refl
   does-booked (rereads-late k) a = says _ _
-  does-booked (rereads {k} o) a = readies (Reread Remove k) k _ tt (a .0) (λ y n. own-off _ y (a .2 .hidden) n) (le-refl _) (le-refl _)
+  does-booked (rereads {k} o) a = to-mark (Reread Remove k) k _ tt (a .0) (λ y n. own-off _ y (a .2 .hidden) n) (le-refl _) (le-refl _)
   does-booked (clean-wins {k} d) a =
-      made (Clean Remove k) (idling q) _ _ _ cleaned refl refl refl (omega arith) (rw (a .2 .shown) (omega arith)) (omega arith)
+      made (Clean Remove k) (idling q) _ _ _ cleanWon refl refl refl (omega arith) (rw (a .2 .shown) (omega arith)) (omega arith)
   does-booked (clean-loses {k} n) a = fails (Clean Remove k) (backing q Remove k (q .p)) (omega (arith, bound (w .next (q .p)) (q .n) n)) (le-refl _) refl
   does-booked (backs {call} {k} M) a = walks (Back call k) _ (omega arith) (le-refl _) refl
   does-booked (back-ends {call} {k} o) a =

@@ -25,7 +25,7 @@ use Rattle.logic.proofs.Keys.{
   extra-placed,
   extra-without,
 }
-use Rattle.list_grown.specs.Deeds.{Deed, called, read, added, marked, cleaned, lost}
+use Rattle.list_grown.specs.Deeds.{Deed, called, read, addWon, markWon, cleanWon, lost}
 use Rattle.list_grown.specs.Demands.{Changes}
 use Rattle.list_grown.proofs.View.{Inv}
 use Rattle.list_grown.proofs.Machine.{viewOf, worldOf, changeOf, insOf, outsOf}
@@ -39,9 +39,9 @@ no-extra {xs} e = rw e (extra-none xs xs (λ k h. h), extra-none xs xs (λ k h. 
 counted : (deed : Deed) (xs ys : List ℕ) → Rising xs → Changes deed xs ys → (extra ys xs ≡ insOf deed) × (extra xs ys ≡ outsOf deed)
 counted called xs ys up change = no-extra change
 counted read xs ys up change = no-extra change
-counted (added key) xs ys up change = rw (change .1) (extra-placed key xs (change .0))
-counted (marked key) xs ys up change = let one = extra-without 0 key xs up (change .0) in rw (change .1) (one .1, one .0)
-counted cleaned xs ys up change = no-extra change
+counted (addWon key) xs ys up change = rw (change .1) (extra-placed key xs (change .0))
+counted (markWon key) xs ys up change = let one = extra-without 0 key xs up (change .0) in rw (change .1) (one .1, one .0)
+counted cleanWon xs ys up change = no-extra change
 counted lost xs ys up change = no-extra change
 
 -- ---- the keys
@@ -90,9 +90,9 @@ module _ (orphan : ℕ → Bool) (m m′ : Machine) (v : Inv (viewOf orphan m)) 
   pub changes : (deed : Deed) (own : ℕ) → Effect w w′ (changeOf deed own) → Changes deed before after
   changes called own e = keys-stay e
   changes read own e = keys-stay e
-  changes (added key) own e = key-comes key e
-  changes (marked key) own e = key-goes key own e
-  changes cleaned own e = keys-stay e
+  changes (addWon key) own e = key-comes key e
+  changes (markWon key) own e = key-goes key own e
+  changes cleanWon own e = keys-stay e
   changes lost own e = keys-stay e
 
   pub ins-outs : (deed : Deed) (own : ℕ) → Effect w w′ (changeOf deed own) → (extra after before ≡ insOf deed) × (extra before after ≡ outsOf deed)

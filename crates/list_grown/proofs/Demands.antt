@@ -11,7 +11,6 @@ use lib.Dec.{eqb}
 use lib.ListN.{length, List·getD-eq-default}
 use borrow.Author.Tests.{le-ltb}
 use Rattle.logic.proofs.Tests.{and-left, and-right}
-use Rattle.list_rows.specs.Table.{Table}
 use Rattle.list_party.specs.declared.Place.the-variants.{Idle}
 use Rattle.list_party.specs.Party.{blank, isIdle}
 use Rattle.list_unchecked.specs.Unchecked.{Machine, partyOf}
@@ -19,10 +18,10 @@ use Rattle.list_form.specs.Form.{recordFits}
 use Rattle.list_form.proofs.Good.{Good, good}
 use Rattle.list.specs.Run.{eventOf}
 use Rattle.list_grown.specs.History.{History, start, Grows, grown}
-use Rattle.list_grown.specs.Counts.{Counts, plus, tally}
+use Rattle.list_grown.specs.Counts.{Counts, plus, noCounts}
 use Rattle.list_grown.specs.Deeds.{deedOf, countsOf}
 use Rattle.list_grown.specs.Rest.{AtRest}
-use Rattle.list_grown.specs.Demands.{Kept, Listed, Demand2, Demand3, Rows}
+use Rattle.list_grown.specs.Demands.{GoodFormKept, ListsLiveKeys, Demand2, Demand3, RowsTaken}
 use Rattle.list_grown.proofs.Grown.{Healthy, Start, Balanced, turn-of, healthy-along, balanced-along, start-balanced}
 use Rattle.list_grown.proofs.SetUp.{none, set-up, start-is}
 use Rattle.list_grown.proofs.Listing.{listing-is, keys-rise, keys-live, live-keys, live-row, row-live}
@@ -30,39 +29,39 @@ use Rattle.list_grown.proofs.Changes.{changes}
 use Rattle.list_grown.proofs.Neat.{rest-clean}
 use Rattle.list_grown.proofs.Events.{whose, idle-is}
 
-none-plus : (c : Counts) → plus (tally 0 0 0 0 0 0) c ≡ c
+none-plus : (c : Counts) → plus noCounts c ≡ c
 none-plus c = simp zero-add refl
 
-module _ (t : Table) (parties : ℕ) (history : History) (g : Grows t parties history) where
-  begins : Start none parties (start t parties)
-  begins = set-up t parties (g .set)
+module _ (came : Machine) (parties : ℕ) (history : History) (g : Grows came parties history) where
+  begins : Start none parties (start came parties)
+  begins = set-up came parties (g .set)
 
-  healthy : Healthy none parties (grown t parties history)
-  healthy = healthy-along none parties history (start t parties) (begins .healthy) (g .accepted)
+  healthy : Healthy none parties (grown came parties history)
+  healthy = healthy-along none parties history (start came parties) (begins .healthy) (g .accepted)
 
   -- the books against the counts from set-up on; set-up has taken the four ends
-  balanced : Balanced parties 4 (grown t parties history) (countsOf (start t parties) history)
+  balanced : Balanced parties 4 (grown came parties history) (countsOf (start came parties) history)
   balanced =
-      let taken : start t parties .state .taken ≡ 4 = ap (λ m. m .state .taken) (start-is t parties (g .set)) in
-      rw (← taken, ← none-plus (countsOf (start t parties) history))
-      (balanced-along none parties (start t parties .state .taken) history (start t parties) (tally 0 0 0 0 0 0) (begins .healthy) (start-balanced none parties (start t parties) begins) (g .accepted))
+      let taken : start came parties .state .taken ≡ 4 = ap (λ m. m .state .taken) (start-is came parties (g .set)) in
+      rw (← taken, ← none-plus (countsOf (start came parties) history))
+      (balanced-along none parties (start came parties .state .taken) history (start came parties) noCounts (begins .healthy) (start-balanced none parties (start came parties) begins) (g .accepted))
 
-pub kept : Kept
-kept t parties history g = let s = healthy t parties history g in (s .form, s .fits)
+pub good-form-kept : GoodFormKept
+good-form-kept came parties history g = let s = healthy came parties history g in (s .form, s .fits)
 
-pub listed : Listed
-listed t parties history g =
-    let s = healthy t parties history g in
-    let m = grown t parties history in (
+pub lists-live-keys : ListsLiveKeys
+lists-live-keys came parties history g =
+    let s = healthy came parties history g in
+    let m = grown came parties history in (
       λ places. listing-is none m (s .inv) (s .form) (s .fits) places,
       keys-rise none m (s .inv),
       λ key. (λ is. live-row none m (s .inv) key (keys-live none m (s .inv) key is), λ row. live-keys none m (s .inv) key (row-live m (s .inv) (s .small) key row)),
     )
 
 pub demand2 : Demand2
-demand2 t parties history event g accepted =
-    let s = healthy t parties history g in
-    let m = grown t parties history in
+demand2 came parties history event g accepted =
+    let s = healthy came parties history g in
+    let m = grown came parties history in
     let turn = turn-of none parties m event s accepted in
     changes none m (eventOf m event .memory) (s .inv) (turn .steady .inv) (deedOf m event) (partyOf m (whose event) .own) (turn .steady .live)
 
@@ -72,15 +71,15 @@ fewer zero lost won some bound = absurd (omega arith)
 fewer (suc others) lost won some bound = let less : suc others - 1 ≡ others = omega arith in rw less (omega arith)
 
 pub demand3 : Demand3
-demand3 t parties history g =
-    let s = healthy t parties history g in
-    let b = balanced t parties history g in
-    let c = countsOf (start t parties) history in
-    let some : 1 ≤ parties = omega (arith, good (grown t parties history) (s .form) .some, s .count) in
+demand3 came parties history g =
+    let s = healthy came parties history g in
+    let b = balanced came parties history g in
+    let c = countsOf (start came parties) history in
+    let some : 1 ≤ parties = omega (arith, good (grown came parties history) (s .form) .some, s .count) in
     (fewer parties (c .lost) (c .won) some (omega (arith, b .bound)), omega (arith, b .paid), b .moves, b .won, b .lost)
 
-pub rows : Rows
-rows t parties history g = let s = healthy t parties history g in rw (s .count) (omega (arith, balanced t parties history g .rows))
+pub rows-taken : RowsTaken
+rows-taken came parties history g = let s = healthy came parties history g in rw (s .count) (omega (arith, balanced came parties history g .rows))
 
 -- places of the party table that no party uses are idle as well
 all-idle : (m : Machine) → Good m → length (m .state .parties) ≡ 16 → ((party : ℕ) → party < m .state .count → isIdle (partyOf m party .place) ≡ true) →
@@ -94,8 +93,8 @@ all-idle m g sixteen idle j = dite (decLt j (m .state .count))
     (λ (none : j < 16 → ⊥). ap (λ q. q .place) (List·getD-eq-default (m .state .parties) blank {n = j} (omega arith))))
 
 pub at-rest : AtRest
-at-rest t parties history g idle steps =
-    let s = healthy t parties history g in
-    let m = grown t parties history in
+at-rest came parties history g idle steps =
+    let s = healthy came parties history g in
+    let m = grown came parties history in
     let form = good m (s .form) in
     rest-clean none m (s .inv) (form .rows) (s .neat) (all-idle m form (s .sixteen) (rw (s .count) idle)) steps

@@ -19,7 +19,7 @@ use Rattle.calls.specs.declared.Call.the-variants.{Add, Remove, Contains}
 use Rattle.list_party.specs.declared.Place.{Place}
 use Rattle.list_party.specs.declared.Place.the-variants.{Idle, Walk, Skip, AddSwap, Mark, Reread, Clean, Back, Look}
 use Rattle.calls.specs.Tallies.{oneMore}
-use Rattle.calls.specs.declared.Said.{Said}
+use Rattle.calls.specs.Words.{Word, wordOf}
 use Rattle.list_moves.specs.Moves.{placeOf}
 use Rattle.list_unchecked.specs.Unchecked.{Machine, partyOf, startOf, begunOf, started, uncheckedCall, uncheckedMove}
 use Rattle.list_form.specs.Form.{rowsIn, goodForm}
@@ -58,7 +58,7 @@ same-fits (Item row key) t = rw (length-set (t .kind) row 2, length-set (t .key)
 
 -- ---- a move
 
-move-passed : (tests : Tests) (m : Machine) (after : Left Machine Said) → isAccepted (leaving tests m after .answer) ≡ true → tests ≡ passed
+move-passed : (tests : Tests) (m : Machine) (after : Left Machine Word) → isAccepted (leaving tests m after .answer) ≡ true → tests ≡ passed
 move-passed (accepted done) m after e = refl
 move-passed (refused number) m after e = absurd (false≢true e)
 
@@ -71,13 +71,13 @@ module _ (m : Machine) (i : ℕ) where
   unfolding moveOf
   move-tests e = move-passed (moveTests m i) m (accepting (uncheckedMove m i)) e
 
-  bare-fits : badTable (m .table) ≡ false → badTable (uncheckedMove m i .after .table) ≡ false
+  unchecked-fits : badTable (m .table) ≡ false → badTable (uncheckedMove m i .after .table) ≡ false
   unfolding uncheckedMove
-  bare-fits fits = same-fits (placeOf (partyOf m i .place) (m .table) (partyOf m i) .write) (m .table) ∙ fits
+  unchecked-fits fits = same-fits (placeOf (partyOf m i .place) (m .table) (partyOf m i) .write) (m .table) ∙ fits
 
-  bare-turn : isIdle (partyOf m i .place) ≡ false → Turn m i (uncheckedMove m i .after) (deedOf m (moves i))
+  unchecked-turn : isIdle (partyOf m i .place) ≡ false → Turn m i (uncheckedMove m i .after) (deedOf m (moves i))
   unfolding uncheckedMove
-  bare-turn busy = move-turn busy
+  unchecked-turn busy = move-turn busy
 
   -- a party that moves is known, and has a call to answer
   pub move-asked : moveTests m i ≡ passed → (i < m .state .count) × (isIdle (partyOf m i .place) ≡ false)
@@ -97,9 +97,9 @@ module _ (m : Machine) (i : ℕ) where
         fits = form .0;
         form = form .1;
         known = move-asked passes .0;
-        kept = move-keeps m i (uncheckedMove m i .said) (ap (λ l. l .answer) is);
-        still-fits = rw is (bare-fits (form .0));
-        turn = rw is (bare-turn (move-asked passes .1));
+        kept = move-keeps m i (wordOf (uncheckedMove m i .said)) (ap (λ l. l .answer) is);
+        still-fits = rw is (unchecked-fits (form .0));
+        turn = rw is (unchecked-turn (move-asked passes .1));
       }
 
 -- ---- a call

@@ -18,8 +18,8 @@ use Rattle.list.specs.Run.{Event, eventOf, run}
 use Rattle.logic.specs.Sum.{sum}
 use Rattle.logic.specs.Keys.{extra}
 use Rattle.logic.proofs.Sum.{sum-zero, sum-one, sum-step}
-use Rattle.list_grown.specs.History.{History, accepts, acceptsAll, Accepted}
-use Rattle.list_grown.specs.Counts.{Counts, tally, plus}
+use Rattle.list_grown.specs.History.{History, accepts, acceptsAll, AllAccepted}
+use Rattle.list_grown.specs.Counts.{Counts, noCounts, plus}
 use Rattle.list_grown.specs.Deeds.{deedOf, deedCounts, eventCounts, countsOf}
 use Rattle.list_grown.proofs.View.{Inv}
 use Rattle.list_grown.proofs.Machine.{viewOf, worldOf, insOf, outsOf}
@@ -114,7 +114,7 @@ module _ (orphan : ℕ → Bool) (parties : ℕ) (m : Machine) (event : Event) (
 
 -- ---- a history
 
-plus-none : (c : Counts) → plus c (tally 0 0 0 0 0 0) ≡ c
+plus-none : (c : Counts) → plus c noCounts ≡ c
 plus-none c = simp add-zero refl
 
 plus-plus : (a b c : Counts) → plus (plus a b) c ≡ plus a (plus b c)
@@ -122,7 +122,7 @@ plus-plus a b c = simp add-assoc refl
 
 -- what every accepted event keeps holds after every accepted history
 pub along : (P : Machine → Type 0) → ((m : Machine) (event : Event) → P m → accepts m event ≡ true → P (eventOf m event .memory)) →
-    (history : History) (m : Machine) → P m → Accepted m history → P (run m history)
+    (history : History) (m : Machine) → P m → AllAccepted m history → P (run m history)
 unfolding run acceptsAll
 along P keeps [] m start ok = start
 along P keeps (first ∷ rest) m start ok =
@@ -130,11 +130,11 @@ along P keeps (first ∷ rest) m start ok =
     along P keeps rest (eventOf m first .memory) (keeps m first start this) (and-right (accepts m first) (acceptsAll (eventOf m first .memory) rest) ok)
 
 module _ (orphan : ℕ → Bool) (parties : ℕ) where
-  pub healthy-along : (history : History) (m : Machine) → Healthy orphan parties m → Accepted m history → Healthy orphan parties (run m history)
+  pub healthy-along : (history : History) (m : Machine) → Healthy orphan parties m → AllAccepted m history → Healthy orphan parties (run m history)
   healthy-along history m s ok = along (Healthy orphan parties) (λ m event s e. healthy-turn orphan parties m event s e) history m s ok
 
   pub balanced-along : (taken : ℕ) (history : History) (m : Machine) (c : Counts) → Healthy orphan parties m → Balanced parties taken m c →
-      Accepted m history →
+      AllAccepted m history →
       Balanced parties taken (run m history) (plus c (countsOf m history))
   unfolding run acceptsAll countsOf
   balanced-along taken [] m c s k ok = rw (plus-none c) k
@@ -146,7 +146,7 @@ module _ (orphan : ℕ → Bool) (parties : ℕ) where
       (and-right (accepts m first) (acceptsAll m′ rest) ok))
 
   -- at a start nothing is stale, owed or held
-  pub start-balanced : (m : Machine) → Start orphan parties m → Balanced parties (m .state .taken) m (tally 0 0 0 0 0 0)
+  pub start-balanced : (m : Machine) → Start orphan parties m → Balanced parties (m .state .taken) m noCounts
   start-balanced m s =
       let stales : sum (staleOf m) parties ≡ 0 = sum-zero (staleOf m) parties (λ j n. rw (s .idles j)) in
       let owings : sum (owesOf m) parties ≡ 0 = sum-zero (owesOf m) parties (λ j n. rw (s .idles j)) in

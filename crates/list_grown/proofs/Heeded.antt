@@ -6,7 +6,7 @@ use mathlib.Core.Bool.{Bool, true, false, cond, _&&_, true≢false}
 use Prim.Native.Nat.{ℕ}
 use Rattle.refusal.specs.Answer.{Answer, accepted, refused, Tests}
 use Rattle.logic.proofs.Tests.{and-left, and-right, and-both}
-use Rattle.calls.specs.declared.Said.{Said}
+use Rattle.calls.specs.Words.{Word}
 use Rattle.list_unchecked.specs.Unchecked.{Machine}
 use Rattle.list.specs.Engine.{callOf, moveOf}
 use Rattle.list.specs.Run.{Event, calls, moves, quiet, eventOf, run}
@@ -21,9 +21,9 @@ call-stays : (m : Machine) (answer : Tests) (after : Machine) → ((number : ℕ
 call-stays m (accepted done) after leaves e = absurd (true≢false e)
 call-stays m (refused number) after leaves e = leaves number refl
 
-move-stays : (m : Machine) (answer : Answer Said) (after : Machine) → ((number : ℕ) → answer ≡ refused number → after ≡ m) →
+move-stays : (m : Machine) (answer : Answer Word) (after : Machine) → ((number : ℕ) → answer ≡ refused number → after ≡ m) →
     isAccepted answer ≡ false → after ≡ m
-move-stays m (accepted said) after leaves e = absurd (true≢false e)
+move-stays m (accepted word) after leaves e = absurd (true≢false e)
 move-stays m (refused number) after leaves e = leaves number refl
 
 second-fails : (a b : Bool) → a ≡ true → a && b ≡ false → b ≡ false

@@ -1,4 +1,5 @@
 -- From what a party knows to the demands, in the order in which each stands on the one before.
+pub mod Places
 pub mod Party
 pub mod View
 pub mod Machine

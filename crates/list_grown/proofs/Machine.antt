@@ -7,7 +7,7 @@ use Rattle.list_rows.specs.Order.{rankAt}
 use Rattle.list_unchecked.specs.Unchecked.{Machine, partyOf}
 use Rattle.list_world.proofs.World.{World}
 use Rattle.list_world.proofs.Live.{Change, still, gain, lose}
-use Rattle.list_grown.specs.Deeds.{Deed, called, read, added, marked, cleaned, lost}
+use Rattle.list_grown.specs.Deeds.{Deed, called, read, addWon, markWon, cleanWon, lost}
 use Rattle.list_grown.proofs.View.{View, world}
 
 -- the orphans are said apart: a list grown from set-up has none
@@ -29,24 +29,24 @@ worldOf orphan m = world (viewOf orphan m)
 abbrev pub changeOf : Deed → (own : ℕ) → Change
 changeOf called own = still
 changeOf read own = still
-changeOf (added key) own = gain (3 + key)
-changeOf (marked key) own = lose (3 + key) own
-changeOf cleaned own = still
+changeOf (addWon key) own = gain (3 + key)
+changeOf (markWon key) own = lose (3 + key) own
+changeOf cleanWon own = still
 changeOf lost own = still
 
 -- keys that a deed brings in, and takes out
 abbrev pub insOf : Deed → ℕ
 insOf called = 0
 insOf read = 0
-insOf (added key) = 1
-insOf (marked key) = 0
-insOf cleaned = 0
+insOf (addWon key) = 1
+insOf (markWon key) = 0
+insOf cleanWon = 0
 insOf lost = 0
 
 abbrev pub outsOf : Deed → ℕ
 outsOf called = 0
 outsOf read = 0
-outsOf (added key) = 0
-outsOf (marked key) = 1
-outsOf cleaned = 0
+outsOf (addWon key) = 0
+outsOf (markWon key) = 1
+outsOf cleanWon = 0
 outsOf lost = 0

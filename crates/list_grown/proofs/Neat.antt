@@ -26,7 +26,7 @@ use Rattle.logic.proofs.Cases.{by-row}
 use Rattle.list_world.proofs.Swap.{swing-over}
 use Rattle.list_world.proofs.ExtendsLaws.{row-ext}
 use Rattle.list_world.proofs.WalkLaws.{at-c, walk-from, walk-on, walk-past, track-on, track-end}
-use Rattle.list_grown.specs.Deeds.{Deed, called, read, added, marked, cleaned, lost}
+use Rattle.list_grown.specs.Deeds.{Deed, called, read, addWon, markWon, cleanWon, lost}
 use Rattle.list_grown.specs.Rest.{rowAfter}
 use Rattle.list_grown.proofs.Party.{At}
 use Rattle.list_grown.proofs.View.{View, world, Inv, Steady}
@@ -167,9 +167,9 @@ module _ (orphan : ℕ → Bool) (m : Machine) where
       does-takes : {l : Place} {moved : Moved} (deed : Deed) (w′ : World) → Does t q l moved deed → Takes w′ (moved .party) (changeOf deed (q .own))
       does-takes called w′ d = tt
       does-takes read w′ d = tt
-      does-takes (added key) w′ d = tt
-      does-takes (marked key) w′ (mark-wins y) = λ x e o. (sym o, at-clean e)
-      does-takes cleaned w′ d = tt
+      does-takes (addWon key) w′ d = tt
+      does-takes (markWon key) w′ (mark-wins y) = λ x e o. (sym o, at-clean e)
+      does-takes cleanWon w′ d = tt
       does-takes lost w′ d = tt
 
       moved-neatly : {moved : Moved} {deed : Deed} → Does t q (q .place) moved deed →

@@ -15,7 +15,7 @@ use Rattle.list_world.proofs.Extends.{Extends}
 use Rattle.list_world.proofs.Walk.{KeyRank, Below, OnWay}
 use Rattle.list_world.proofs.ExtendsLaws.{row-ext}
 use Rattle.list_world.proofs.WalkLaws.{key-ext, behind-ext, walking-ext, at-c}
-use Rattle.list_grown.specs.Demands.{Holds}
+use Rattle.list_grown.specs.Demands.{HoldsRow}
 
 -- ---- the own row
 
@@ -102,7 +102,7 @@ pub record Keeps (w w′ : World) (x : ℕ) : Type 0 where
   pub next : w′ .next x ≡ w .next x
   pub back : w′ .back x ≡ w .back x
 
-module _ {w w′ : World} (g : Intact w) (t : Extends w w′) (q : Party) (own : (x : ℕ) → Holds q x → Keeps w w′ x) where
+module _ {w w′ : World} (g : Intact w) (t : Extends w w′) (q : Party) (own : (x : ℕ) → HoldsRow q x → Keeps w w′ x) where
   kept : q .unpublished ≡ true → Keeps w w′ (q .own)
   kept f = own (q .own) (f, refl)
 

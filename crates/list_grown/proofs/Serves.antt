@@ -20,7 +20,7 @@ use Rattle.calls.specs.Calls.{isRemove}
 use Rattle.list_party.specs.Party.{isIdle}
 use Rattle.list_world.proofs.World.{World}
 use Rattle.list_world.proofs.Live.{LiveRank}
-use Rattle.list_grown.specs.Deeds.{Deed, added, marked, deedAt}
+use Rattle.list_grown.specs.Deeds.{Deed, addWon, markWon, deedAt}
 use Rattle.list_grown.proofs.Machine.{worldOf}
 use Rattle.list_grown.proofs.Does.{
   Does,
@@ -69,7 +69,7 @@ pub data Serves (q : Party) (k : ℕ) : Call → Place → Type 0 where
 
 -- what a move makes of its call: a REMOVE marks, or the call goes on and nothing is said, or it is over
 pub data Goes (k : ℕ) : Call → Deed → Said → Party → Type 0 where
-  cuts : {q : Party} → Goes k Remove (marked k) Nothing q
+  cuts : {q : Party} → Goes k Remove (markWon k) Nothing q
   goes : {call : Call} {deed : Deed} {q : Party} → Serves q k call (q .place) → Goes k call deed Nothing q
   ends : {call : Call} {deed : Deed} {said : Said} {q : Party} → isIdle (q .place) ≡ true → Goes k call deed said q
 
@@ -103,7 +103,7 @@ does-goes (look-finds b o) look = ends refl
 
 -- a party that is still busy serves its call if it has not marked
 pub marks-or-serves : {k : ℕ} {call : Call} {deed : Deed} {said : Said} {q : Party} → Goes k call deed said q →
-    ((isRemove call ≡ true) × (deed ≡ marked k)) ⊎ (isIdle (q .place) ≡ false → Serves q k call (q .place))
+    ((isRemove call ≡ true) × (deed ≡ markWon k)) ⊎ (isIdle (q .place) ≡ false → Serves q k call (q .place))
 marks-or-serves cuts = inl (refl, refl)
 marks-or-serves (goes s) = inr (λ busy. s)
 marks-or-serves (ends e) = inr (λ busy. absurd (true≢false (sym e ∙ busy)))
@@ -133,7 +133,7 @@ module _ (orphan : ℕ → Bool) (m : Machine) where
   w = worldOf orphan m
 
   -- only a won add swap says yes to an ADD
-  pub add-told : {q : Party} {k : ℕ} {l : Place} → Told w q l Yes → Serves q k Add l → deedAt l (m .table) q ≡ added k
+  pub add-told : {q : Party} {k : ℕ} {l : Place} → Told w q l Yes → Serves q k Add l → deedAt l (m .table) q ≡ addWon k
   add-told {q} (add-yes e) (swap f) = rw (eq-eqb (nextAt (m .table) (q .p)) (q .n) e)
 
   pub found-told : {q : Party} {k : ℕ} {l : Place} → Told w q l No → Serves q k Add l → LiveRank w (3 + k)

@@ -20,7 +20,7 @@ use Rattle.list.specs.Engine.{badTable, setUpTests, setUpOf}
 use Rattle.list.proofs.Laws.{repeat-at, past-set-up, table-fits}
 use Rattle.list.proofs.Kept.{set-up-is-good}
 use Rattle.list_world.proofs.World.{World, RowFacts, Removed, stop, step}
-use Rattle.list_grown.specs.Demands.{Holds}
+use Rattle.list_grown.specs.Demands.{HoldsRow}
 use Rattle.list_grown.specs.History.{start}
 use Rattle.list_grown.proofs.View.{Inv}
 use Rattle.list_grown.proofs.Machine.{viewOf, worldOf}
@@ -39,7 +39,7 @@ module _ (parties n : ℕ) where
   abbrev w : World
   w = worldOf none fresh
 
-  nobody : (j row : ℕ) → Holds (partyOf fresh j) row → ⊥
+  nobody : (j row : ℕ) → HoldsRow (partyOf fresh j) row → ⊥
   nobody j row held = false≢true (rw (repeat-at blank 16 j) at held .0)
 
   known : (row : ℕ) → row < 4 → w .Pub row
@@ -114,7 +114,10 @@ module _ (parties n : ℕ) where
 
 -- ---- the start
 
-module _ (t : Table) (parties : ℕ) (ok : setUpOf t parties .answer ≡ passed) where
+module _ (came : Machine) (parties : ℕ) (ok : setUpOf came parties .answer ≡ passed) where
+  abbrev t : Table
+  t = came .table
+
   abbrev N : ℕ
   N = rowsIn t
 
@@ -123,9 +126,9 @@ module _ (t : Table) (parties : ℕ) (ok : setUpOf t parties .answer ≡ passed)
 
   passes : setUpTests t parties ≡ passed
   unfolding setUpOf
-  passes = change-past (setUpTests t parties) (machine t (restingState 0 0)) (left laid passed) tt ok
+  passes = change-past (setUpTests t parties) came (left laid passed) tt ok
 
-  pub start-is : start t parties ≡ laid
+  pub start-is : start came parties ≡ laid
   unfolding setUpOf
   start-is = rw (passes, start)
 
@@ -161,5 +164,5 @@ module _ (t : Table) (parties : ℕ) (ok : setUpOf t parties .answer ≡ passed)
     lost = refl;
   }
 
-  pub set-up : Start none parties (start t parties)
-  set-up = rw start-is (laid-start (rw start-is at (set-up-is-good t parties ok)))
+  pub set-up : Start none parties (start came parties)
+  set-up = rw start-is (laid-start (rw start-is at (set-up-is-good came parties ok)))

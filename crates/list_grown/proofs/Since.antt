@@ -20,8 +20,8 @@ use Rattle.list.specs.Run.{Event, calls, moves, eventOf, run}
 use Rattle.list_world.proofs.Live.{LiveRank}
 use Rattle.logic.specs.Keys.{has}
 use Rattle.logic.proofs.Cases.{by-row, by-test}
-use Rattle.list_grown.specs.History.{History, accepts, acceptsAll, Accepted}
-use Rattle.list_grown.specs.Deeds.{marked, deedOf}
+use Rattle.list_grown.specs.History.{History, accepts, acceptsAll, AllAccepted}
+use Rattle.list_grown.specs.Deeds.{markWon, deedOf}
 use Rattle.list_grown.specs.Answers.{callsNot}
 use Rattle.list_grown.proofs.Machine.{worldOf}
 use Rattle.list_grown.proofs.Does.{Does, does}
@@ -68,7 +68,7 @@ no-call i (moves j) rest quiet = (by-row j i (λ e. rw e own) (λ n. other (λ e
 module _ (parties i : ℕ) (P : Machine → Event → Type 0) (Q : Machine → Type 0)
     (keeps : (m : Machine) (event : Event) → Healthy none parties m → accepts m event ≡ true → NoCall i event → Q m → P m event ⊎ Q (eventOf m event .memory)) where
   -- Q lasts until an event of which P holds
-  until : (history : History) (m : Machine) → Healthy none parties m → Accepted m history → callsNot i history ≡ true → Q m →
+  until : (history : History) (m : Machine) → Healthy none parties m → AllAccepted m history → callsNot i history ≡ true → Q m →
       Sometime P m history ⊎ Q (run m history)
   unfolding run acceptsAll
   until [] m s ok quiet q = inr q
@@ -115,7 +115,7 @@ module _ (i k : ℕ) where
 
   -- a REMOVE's mark swap
   abbrev pub Marks : Call → Machine → Event → Type 0
-  Marks call m event = (isRemove call ≡ true) × (event ≡ moves i) × (deedOf m (moves i) ≡ marked k)
+  Marks call m event = (isRemove call ≡ true) × (event ≡ moves i) × (deedOf m (moves i) ≡ markWon k)
 
   -- until it answers, the party has the key's row before it if the key is live
   abbrev pub Following : Machine → Type 0
@@ -133,7 +133,7 @@ module _ (i k : ℕ) where
         ⊎-elim (λ d. inl (d .0, refl, d .1)) (λ r. inr r) (marks-or-serves (own-goes parties i m s e (r (busy parties i m s e))))
     serving-turn call m event s e (other n) r = inr (rw (turn-of none parties m event s e .others i n) r)
 
-    pub serving-since : (call : Call) (history : History) (m : Machine) → Healthy none parties m → Accepted m history → callsNot i history ≡ true →
+    pub serving-since : (call : Call) (history : History) (m : Machine) → Healthy none parties m → AllAccepted m history → callsNot i history ≡ true →
         Serving call m →
         Sometime (Marks call) m history ⊎ Serving call (run m history)
     serving-since call = until parties i (Marks call) (Serving call) (serving-turn call)
@@ -154,6 +154,6 @@ module _ (i k : ℕ) where
     following-turn m event s e by f = by-test (λ b. Absent m event ⊎ Following (eventOf m event .memory)) (has k (liveKeys m))
         (λ is. inr (live-turn m event s e by (keys-live none m (s .inv) k is) f)) (λ is. inl is)
 
-    pub following-since : (history : History) (m : Machine) → Healthy none parties m → Accepted m history → callsNot i history ≡ true → Following m →
+    pub following-since : (history : History) (m : Machine) → Healthy none parties m → AllAccepted m history → callsNot i history ≡ true → Following m →
         Sometime Absent m history ⊎ Following (run m history)
     following-since = until parties i Absent Following following-turn

@@ -15,7 +15,8 @@ use Rattle.list_rows.specs.Order.{rank, rankAt}
 use Rattle.calls.specs.declared.Call.the-variants.{Add, Remove}
 use Rattle.list_party.specs.declared.Place.{Place}
 use Rattle.list_party.specs.declared.Party.{Party}
-use Rattle.list_party.specs.Party.{blank, idling, published, adding, marking, cleaning}
+use Rattle.list_party.specs.Party.{blank, idling, published}
+use Rattle.list_grown.proofs.Places.{adding, marking, cleaning}
 use Rattle.list_moves.specs.declared.Moved.{Moved}
 use Rattle.list_unchecked.specs.Unchecked.{Machine, partyOf, carried}
 use Rattle.list_form.proofs.Good.{Rows}
@@ -28,7 +29,7 @@ use Rattle.list_world.proofs.WorldLaws.{skip-pos, row-succ, succ-open}
 use Rattle.list_world.proofs.ExtendsLaws.{row-ext, mark-ext}
 use Rattle.list_world.proofs.Swap.{mark-good}
 use Rattle.list_world.proofs.WalkLaws.{walking-ext, at-c, walk-from, walk-on, walk-past, past-rises, back-splice, add-swing, clean-swing, mark-mark}
-use Rattle.list_grown.specs.Demands.{Holds}
+use Rattle.list_grown.specs.Demands.{HoldsRow}
 use Rattle.list_grown.specs.Deeds.{Deed}
 use Rattle.list_grown.proofs.Party.{OwnItem, OwnSplice, OwnMark, At, Keeps, at-ext, away-mine}
 use Rattle.list_grown.proofs.View.{View, world, Known, Inv, Steady, Wins, won-write, won-new, won-mine, inv-quiet, inv-mark, inv-add, inv-clean}
@@ -103,8 +104,8 @@ module _ (orphan : ℕ → Bool) (m : Machine) (v : Inv (viewOf orphan m)) (z : 
   now q′ = getD-set-same (m .state .parties) i q′ blank h
 
   -- party i becomes q′, holding what it held, and only entries of its own row change
-  pub quiet : (t : Table) (q′ : Party) → ((x : ℕ) → Holds q′ x → Holds q x) → ((x : ℕ) → Holds q x → Holds q′ x)
-      → ((x : ℕ) → (Holds q x → ⊥) → Keeps w (world (became t q′)) x)
+  pub quiet : (t : Table) (q′ : Party) → ((x : ℕ) → HoldsRow q′ x → HoldsRow q x) → ((x : ℕ) → HoldsRow q x → HoldsRow q′ x)
+      → ((x : ℕ) → (HoldsRow q x → ⊥) → Keeps w (world (became t q′)) x)
       → (Extends w (world (became t q′)) → At (world (became t q′)) q′ (q′ .place)) → Steady (viewOf orphan m) (became t q′) still
   quiet t q′ a b k mine =
       let e : getD (set (m .state .parties) i q′) i blank ≡ q′ = now q′ in
@@ -113,7 +114,7 @@ module _ (orphan : ℕ → Bool) (m : Machine) (v : Inv (viewOf orphan m)) (z : 
       (λ x d. rw e (b x d)) (λ x c d. absurd (omega arith)) (λ x d. k x (λ c. d (rw e (b x c)))) (λ t. rw e (mine t))
 
   -- only the party changes
-  pub read : (q′ : Party) → ((x : ℕ) → Holds q′ x → Holds q x) → ((x : ℕ) → Holds q x → Holds q′ x) → At w q′ (q′ .place) →
+  pub read : (q′ : Party) → ((x : ℕ) → HoldsRow q′ x → HoldsRow q x) → ((x : ℕ) → HoldsRow q x → HoldsRow q′ x) → At w q′ (q′ .place) →
       Steady (viewOf orphan m) (became (m .table) q′) still
   read q′ a b d = quiet (m .table) q′ a b (λ x n. record { rank = refl; next = refl; back = refl })
       (λ t. at-ext g t q′ (λ x n. record { rank = refl; next = refl; back = refl }) (q′ .place) d)
@@ -199,7 +200,7 @@ module _ (orphan : ℕ → Bool) (m : Machine) (v : Inv (viewOf orphan m)) (z : 
   hidden f k = k .1 i (f, refl)
 
   -- a swap publishes own at most
-  just-own : (x : ℕ) → w .Pub x ⊎ Holds q x → w .Pub x ⊎ (x ≡ q .own)
+  just-own : (x : ℕ) → w .Pub x ⊎ HoldsRow q x → w .Pub x ⊎ (x ≡ q .own)
   just-own x (inl a) = inl a
   just-own x (inr b) = inr (sym (b .1))
 

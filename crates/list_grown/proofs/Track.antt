@@ -12,7 +12,9 @@ use Rattle.calls.specs.declared.Call.the-variants.{Remove, Contains}
 use Rattle.list_party.specs.declared.Place.{Place}
 use Rattle.list_party.specs.declared.Place.the-variants.{Idle, Walk, Mark, Reread, Look}
 use Rattle.list_party.specs.declared.Party.{Party}
-use Rattle.list_party.specs.Party.{blank, starting, looking, isIdle}
+use Rattle.list_party.specs.Party.{blank, isIdle}
+use Rattle.list_unchecked.specs.Unchecked.{starting}
+use Rattle.list_grown.proofs.Places.{looking}
 use Rattle.calls.specs.declared.Said.{Said}
 use Rattle.calls.specs.declared.Said.the-variants.{Nothing, Yes, No}
 use Rattle.list_moves.specs.declared.Moved.{Moved}

@@ -24,7 +24,9 @@ use Rattle.list_party.specs.declared.Party.{Party}
 use Rattle.list_party.specs.declared.State.{State}
 use Rattle.calls.specs.declared.Access.{Access}
 use Rattle.calls.specs.declared.Access.the-variants.{None, Read, Won, Lost}
-use Rattle.list_party.specs.Party.{blank, starting, looking, isIdle}
+use Rattle.list_party.specs.Party.{blank, isIdle}
+use Rattle.list_unchecked.specs.Unchecked.{starting}
+use Rattle.list_grown.proofs.Places.{looking}
 use Rattle.list_party.specs.State.{withParty, withTaken, tallied}
 use Rattle.list_moves.specs.declared.Moved.{Moved}
 use Rattle.list_moves.specs.Moves.{placeOf}
@@ -38,7 +40,7 @@ use Rattle.list_world.proofs.Walk.{OnWay}
 use Rattle.list_world.proofs.Live.{still}
 use Rattle.logic.proofs.Cases.{by-row}
 use Rattle.list_world.proofs.WalkLaws.{walking-ext, walk-start}
-use Rattle.list_grown.specs.Deeds.{Deed, called, read, added, marked, cleaned, lost, deedAt, deedCounts}
+use Rattle.list_grown.specs.Deeds.{Deed, called, read, addWon, markWon, cleanWon, lost, deedAt, deedCounts}
 use Rattle.list_grown.proofs.Party.{At}
 use Rattle.list_grown.proofs.View.{Inv, Steady, inv-quiet, key-of}
 use Rattle.list_grown.proofs.Machine.{viewOf, worldOf, changeOf, insOf, outsOf}
@@ -138,25 +140,25 @@ module _ (st : State) (below-moves : st .tallies .moves < 4294967295) (below-won
   deed-moves : (deed : Deed) → tallied (accessOf deed) st .tallies .moves ≡ st .tallies .moves + deedCounts deed .moves
   deed-moves called = omega arith
   deed-moves read = rw (lt-ltb (st .tallies .moves) 4294967295 below-moves)
-  deed-moves (added key) = rw (lt-ltb (st .tallies .moves) 4294967295 below-moves)
-  deed-moves (marked key) = rw (lt-ltb (st .tallies .moves) 4294967295 below-moves)
-  deed-moves cleaned = rw (lt-ltb (st .tallies .moves) 4294967295 below-moves)
+  deed-moves (addWon key) = rw (lt-ltb (st .tallies .moves) 4294967295 below-moves)
+  deed-moves (markWon key) = rw (lt-ltb (st .tallies .moves) 4294967295 below-moves)
+  deed-moves cleanWon = rw (lt-ltb (st .tallies .moves) 4294967295 below-moves)
   deed-moves lost = rw (lt-ltb (st .tallies .moves) 4294967295 below-moves)
 
   deed-won : (deed : Deed) → tallied (accessOf deed) st .tallies .won ≡ st .tallies .won + deedCounts deed .won
   deed-won called = omega arith
   deed-won read = omega arith
-  deed-won (added key) = rw (lt-ltb (st .tallies .won) 4294967295 below-won)
-  deed-won (marked key) = rw (lt-ltb (st .tallies .won) 4294967295 below-won)
-  deed-won cleaned = rw (lt-ltb (st .tallies .won) 4294967295 below-won)
+  deed-won (addWon key) = rw (lt-ltb (st .tallies .won) 4294967295 below-won)
+  deed-won (markWon key) = rw (lt-ltb (st .tallies .won) 4294967295 below-won)
+  deed-won cleanWon = rw (lt-ltb (st .tallies .won) 4294967295 below-won)
   deed-won lost = omega arith
 
   deed-lost : (deed : Deed) → tallied (accessOf deed) st .tallies .lost ≡ st .tallies .lost + deedCounts deed .lost
   deed-lost called = omega arith
   deed-lost read = omega arith
-  deed-lost (added key) = omega arith
-  deed-lost (marked key) = omega arith
-  deed-lost cleaned = omega arith
+  deed-lost (addWon key) = omega arith
+  deed-lost (markWon key) = omega arith
+  deed-lost cleanWon = omega arith
   deed-lost lost = rw (lt-ltb (st .tallies .lost) 4294967295 below-lost)
 
 -- ---- every turn

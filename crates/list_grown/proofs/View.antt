@@ -17,7 +17,7 @@ use Rattle.logic.proofs.Cases.{by-row}
 use Rattle.list_world.proofs.Swap.{mark-good, swing-good, ahead, put-succ-v}
 use Rattle.list_world.proofs.ExtendsLaws.{same-good, same-next, same-ext, same-effect, mark-ext, swing-ext}
 use Rattle.list_world.proofs.LiveLaws.{mark-effect, add-effect, clean-effect}
-use Rattle.list_grown.specs.Demands.{Holds}
+use Rattle.list_grown.specs.Demands.{HoldsRow}
 use Rattle.list_grown.proofs.Party.{At, Keeps, at-ext}
 
 -- the machine as functions of row and party numbers, and the rows that nobody may use: rows that were off the list when it was taken over
@@ -31,7 +31,7 @@ pub record View : Type 0 where
 
 -- published: taken, held by no party, and no orphan
 abbrev pub Known : (ℕ → Bool) → ℕ → (ℕ → Party) → ℕ → Type 0
-Known o t ps x = (x < t) × ((j : ℕ) → Holds (ps j) x → ⊥) × (o x ≡ false)
+Known o t ps x = (x < t) × ((j : ℕ) → HoldsRow (ps j) x → ⊥) × (o x ≡ false)
 
 abbrev pub world : View → World
 world σ = record { rank = σ .rank; next = σ .next; back = σ .back; Pub = Known (σ .orphan) (σ .taken) (σ .party) }
@@ -42,14 +42,14 @@ pub record Inv (σ : View) : Type 0 where
   -- the rank of every key lies between those of rows 1 and 2
   pub scale : (σ .rank 1 ≡ 2) × (σ .rank 2 ≡ 4294967299)
   pub holds : (j : ℕ) → At (world σ) (σ .party j) (σ .party j .place)
-  pub inside : (j x : ℕ) → Holds (σ .party j) x → x < σ .taken
+  pub inside : (j x : ℕ) → HoldsRow (σ .party j) x → x < σ .taken
   -- no row is held by two parties
-  pub apart : (i j x : ℕ) → Holds (σ .party i) x → Holds (σ .party j) x → i ≡ j
+  pub apart : (i j x : ℕ) → HoldsRow (σ .party i) x → HoldsRow (σ .party j) x → i ≡ j
   -- orphans are taken and nobody's
-  pub lost : (x : ℕ) → σ .orphan x ≡ true → (x < σ .taken) × ((j : ℕ) → Holds (σ .party j) x → ⊥)
+  pub lost : (x : ℕ) → σ .orphan x ≡ true → (x < σ .taken) × ((j : ℕ) → HoldsRow (σ .party j) x → ⊥)
 
 -- what is held is no orphan
-pub not-orphan : {σ : View} → Inv σ → (j x : ℕ) → Holds (σ .party j) x → σ .orphan x ≡ false
+pub not-orphan : {σ : View} → Inv σ → (j x : ℕ) → HoldsRow (σ .party j) x → σ .orphan x ≡ false
 not-orphan {σ} v j x h = go (σ .orphan x) refl
   where
     go : (b : Bool) → σ .orphan x ≡ b → σ .orphan x ≡ false
@@ -61,7 +61,7 @@ pub record Alone (σ σ′ : View) (i : ℕ) : Type 0 where
   pub others : (j : ℕ) → j ≢ i → σ′ .party j ≡ σ .party j
   pub grows : σ .taken ≤ σ′ .taken
   pub same : (x : ℕ) → σ′ .orphan x ≡ σ .orphan x
-  pub holding : (x : ℕ) → Holds (σ′ .party i) x → Holds (σ .party i) x ⊎ ((x ≡ σ .taken) × (σ .taken < σ′ .taken))
+  pub holding : (x : ℕ) → HoldsRow (σ′ .party i) x → HoldsRow (σ .party i) x ⊎ ((x ≡ σ .taken) × (σ .taken < σ′ .taken))
 
 -- what every turn keeps, and what it changes
 pub record Steady (σ σ′ : View) (d : Change) : Type 0 where
@@ -76,7 +76,7 @@ pub record Steady (σ σ′ : View) (d : Change) : Type 0 where
 
 module _ {σ σ′ : View} (v : Inv σ) (i : ℕ) (m : Alone σ σ′ i) where
   -- what is left to show of a move
-  pub inv-move : Intact (world σ′) → Extends (world σ) (world σ′) → ((j x : ℕ) → j ≢ i → Holds (σ .party j) x → Keeps (world σ) (world σ′) x)
+  pub inv-move : Intact (world σ′) → Extends (world σ) (world σ′) → ((j x : ℕ) → j ≢ i → HoldsRow (σ .party j) x → Keeps (world σ) (world σ′) x)
       → At (world σ′) (σ′ .party i) (σ′ .party i .place) → Inv σ′
   inv-move g t keep mine = record {
     good = g;
@@ -91,28 +91,28 @@ module _ {σ σ′ : View} (v : Inv σ) (i : ℕ) (m : Alone σ σ′ i) where
       holds j = by-row j i (λ e. rw e mine) (λ n. rw (m .others j n) (at-ext (v .good) t (σ .party j) (λ x h. keep j x n h) (σ .party j .place) (v .holds j)))
 
       -- what a party holds now it held, or it is the mover's new row
-      was : (j x : ℕ) → Holds (σ′ .party j) x → Holds (σ .party j) x ⊎ ((j ≡ i) × (x ≡ σ .taken) × (σ .taken < σ′ .taken))
+      was : (j x : ℕ) → HoldsRow (σ′ .party j) x → HoldsRow (σ .party j) x ⊎ ((j ≡ i) × (x ≡ σ .taken) × (σ .taken < σ′ .taken))
       was j x h = by-row j i (λ e. ⊎-elim (λ a. inl (rw e a)) (λ b. inr (e, b .0, b .1)) (m .holding x (rw e at h))) (λ n. inl (rw (m .others j n) at h))
 
-      inside : (j x : ℕ) → Holds (σ′ .party j) x → x < σ′ .taken
+      inside : (j x : ℕ) → HoldsRow (σ′ .party j) x → x < σ′ .taken
       inside j x h = ⊎-elim (λ a. omega (arith, v .inside j x a, m .grows)) (λ b. omega (arith, b)) (was j x h)
 
-      lost : (x : ℕ) → σ′ .orphan x ≡ true → (x < σ′ .taken) × ((j : ℕ) → Holds (σ′ .party j) x → ⊥)
+      lost : (x : ℕ) → σ′ .orphan x ≡ true → (x < σ′ .taken) × ((j : ℕ) → HoldsRow (σ′ .party j) x → ⊥)
       lost x e = let l = v .lost x (sym (m .same x) ∙ e) in (omega (arith, l .0, m .grows), λ j h. ⊎-elim (λ a. l .1 j a) (λ b. omega (arith, l .0, b .1)) (was j x h))
 
-      apart : (k j x : ℕ) → Holds (σ′ .party k) x → Holds (σ′ .party j) x → k ≡ j
+      apart : (k j x : ℕ) → HoldsRow (σ′ .party k) x → HoldsRow (σ′ .party j) x → k ≡ j
       apart k j x a b = go (was k x a) (was j x b)
         where
-          go : Holds (σ .party k) x ⊎ ((k ≡ i) × (x ≡ σ .taken) × (σ .taken < σ′ .taken)) →
-              Holds (σ .party j) x ⊎ ((j ≡ i) × (x ≡ σ .taken) × (σ .taken < σ′ .taken)) → k ≡ j
+          go : HoldsRow (σ .party k) x ⊎ ((k ≡ i) × (x ≡ σ .taken) × (σ .taken < σ′ .taken)) →
+              HoldsRow (σ .party j) x ⊎ ((j ≡ i) × (x ≡ σ .taken) × (σ .taken < σ′ .taken)) → k ≡ j
           go (inl c) (inl d) = v .apart k j x c d
           go (inl c) (inr d) = absurd (omega (arith, v .inside k x c, d .1))
           go (inr c) (inl d) = absurd (omega (arith, v .inside j x d, c .1))
           go (inr c) (inr d) = c .0 ∙ sym (d .0)
 
   -- a read, a call, an answer, work on the own row: entries of rows that i does not hold stay
-  module _ (whole : (x : ℕ) → Holds (σ .party i) x → Holds (σ′ .party i) x) (room : (x : ℕ) → σ .taken ≤ x → x < σ′ .taken → Holds (σ′ .party i) x)
-      (stay : (x : ℕ) → (Holds (σ′ .party i) x → ⊥) → Keeps (world σ) (world σ′) x) where
+  module _ (whole : (x : ℕ) → HoldsRow (σ .party i) x → HoldsRow (σ′ .party i) x) (room : (x : ℕ) → σ .taken ≤ x → x < σ′ .taken → HoldsRow (σ′ .party i) x)
+      (stay : (x : ℕ) → (HoldsRow (σ′ .party i) x → ⊥) → Keeps (world σ) (world σ′) x) where
     quiet-pub : (x : ℕ) → world σ .Pub x → world σ′ .Pub x
     quiet-pub x h = (
       omega (arith, h .0, m .grows),
@@ -147,7 +147,7 @@ module _ {σ σ′ : View} (v : Inv σ) (i : ℕ) (m : Alone σ σ′ i) where
 -- a swap that party i wins: it writes the next of p and then holds no row
 pub record Wins (σ : View) (i p u : ℕ) (f : ℕ → ℕ) (ps : ℕ → Party) : Type 0 where
   pub others : (j : ℕ) → j ≢ i → ps j ≡ σ .party j
-  pub none : (x : ℕ) → Holds (ps i) x → ⊥
+  pub none : (x : ℕ) → HoldsRow (ps i) x → ⊥
   pub row : Proper (world σ) p
   pub free : Open (world σ) p
   pub at : f p ≡ u
@@ -170,17 +170,17 @@ module _ {σ : View} {i p u : ℕ} {f : ℕ → ℕ} {ps : ℕ → Party} (v : I
   }
 
   -- what is published now was so before, or was held by i
-  pub won-new : (x : ℕ) → Known (σ .orphan) (σ .taken) ps x → world σ .Pub x ⊎ Holds (σ .party i) x
+  pub won-new : (x : ℕ) → Known (σ .orphan) (σ .taken) ps x → world σ .Pub x ⊎ HoldsRow (σ .party i) x
   won-new x h = by-row x (σ .party i .own) (λ e. flag e (σ .party i .unpublished) refl) (λ n. inl (h .0, λ j k. by-row j i (λ e. n (sym (rw e at k .1))) (λ d. h .1 j (rw (s .others j d) k)), h .2))
     where
-      flag : x ≡ σ .party i .own → (b : Bool) → σ .party i .unpublished ≡ b → world σ .Pub x ⊎ Holds (σ .party i) x
+      flag : x ≡ σ .party i .own → (b : Bool) → σ .party i .unpublished ≡ b → world σ .Pub x ⊎ HoldsRow (σ .party i) x
       flag e true q = inr (q, sym e)
       flag e false q = inl (h .0, λ j k. by-row j i (λ d. true≢false (sym (rw d at k .0) ∙ q)) (λ d. h .1 j (rw (s .others j d) k)), h .2)
 
-  pub won-mine : (x : ℕ) → Holds (σ .party i) x → Known (σ .orphan) (σ .taken) ps x
+  pub won-mine : (x : ℕ) → HoldsRow (σ .party i) x → Known (σ .orphan) (σ .taken) ps x
   won-mine x h = (v .inside i x h, λ j k. by-row j i (λ e. s .none x (rw e at k)) (λ n. n (v .apart j i x (rw (s .others j n) at k) h)), not-orphan v i x h)
 
-  won-keep : (j x : ℕ) → j ≢ i → Holds (σ .party j) x → Keeps (world σ) (world (swapped σ f ps)) x
+  won-keep : (j x : ℕ) → j ≢ i → HoldsRow (σ .party j) x → Keeps (world σ) (world (swapped σ f ps)) x
   won-keep j x n h = record { rank = refl; next = s .off x (λ e. s .row .known .1 j (rw e at h)); back = refl }
 
   pub inv-mark : MarkSwap (world σ) f (Known (σ .orphan) (σ .taken) ps) p u → At (world (swapped σ f ps)) (ps i) (ps i .place) →
@@ -190,13 +190,13 @@ module _ {σ : View} {i p u : ℕ} {f : ℕ → ℕ} {ps : ℕ → Party} (v : I
     ext = t;
     live = mark-effect (v .good) m;
     news = λ y h p. ⊎-elim (λ a. inl a) (λ e. absurd (omega (arith, ap (σ .rank) e, m .splice))) (m .new y h);
-    marks = λ x h k. marked x k (m .new x h);
+    marks = λ x h k. removed-then x k (m .new x h);
   }
     where
-      marked : (x : ℕ) → Removed (world (swapped σ f ps)) x → world σ .Pub x ⊎ (x ≡ u) →
+      removed-then : (x : ℕ) → Removed (world (swapped σ f ps)) x → world σ .Pub x ⊎ (x ≡ u) →
           (world σ .Pub x × Removed (world σ) x) ⊎ ((lose (σ .rank p) u ≡ lose (σ .rank x) (f x)) × (world σ .Pub (f x) → ⊥))
-      marked x k (inl a) = by-row x p (λ e. inr (rw (e, s .at) refl, rw (e, s .at) (m .fresh))) (λ n. inl (a, rw (s .off x n) at k))
-      marked x k (inr e) = absurd (omega (arith, m .write .free, rw (e, s .off u (λ d. m .fresh (rw d (s .row .known))), m .nxt) at k))
+      removed-then x k (inl a) = by-row x p (λ e. inr (rw (e, s .at) refl, rw (e, s .at) (m .fresh))) (λ n. inl (a, rw (s .off x n) at k))
+      removed-then x k (inr e) = absurd (omega (arith, m .write .free, rw (e, s .off u (λ d. m .fresh (rw d (s .row .known))), m .nxt) at k))
 
   -- a swing marks no row
   swing-marks : {e y : ℕ} → Swing (world σ) f (Known (σ .orphan) (σ .taken) ps) p e y → (x : ℕ) → Known (σ .orphan) (σ .taken) ps x →

@@ -13,16 +13,29 @@ pub record Counts : Type 0 where
   pub ins : ℕ
   pub outs : ℕ
 
--- counts of calls and moves, with no key brought in or taken out
-abbrev pub tally : (calls moves won lost adds marks : ℕ) → Counts
-tally calls moves won lost adds marks =
-    record { calls = calls; moves = moves; won = won; lost = lost; adds = adds; marks = marks; ins = 0; outs = 0 }
+abbrev pub noCounts : Counts
+noCounts = record { calls = 0; moves = 0; won = 0; lost = 0; adds = 0; marks = 0; ins = 0; outs = 0 }
 
 abbrev pub withKeys : (ins outs : ℕ) → Counts → Counts
-withKeys ins outs c =
-    record { calls = c .calls; moves = c .moves; won = c .won; lost = c .lost; adds = c .adds; marks = c .marks; ins = ins; outs = outs }
+withKeys ins outs c = record {
+  calls = c .calls;
+  moves = c .moves;
+  won = c .won;
+  lost = c .lost;
+  adds = c .adds;
+  marks = c .marks;
+  ins = ins;
+  outs = outs;
+}
 
 abbrev pub plus : Counts → Counts → Counts
-plus a b =
-    withKeys (a .ins + b .ins) (a .outs + b .outs)
-    (tally (a .calls + b .calls) (a .moves + b .moves) (a .won + b .won) (a .lost + b .lost) (a .adds + b .adds) (a .marks + b .marks))
+plus a b = record {
+  calls = a .calls + b .calls;
+  moves = a .moves + b .moves;
+  won = a .won + b .won;
+  lost = a .lost + b .lost;
+  adds = a .adds + b .adds;
+  marks = a .marks + b .marks;
+  ins = a .ins + b .ins;
+  outs = a .outs + b .outs;
+}

@@ -12,7 +12,7 @@ use Rattle.list.specs.Engine.{liveKeys}
 use Rattle.list.specs.Run.{Event, calls, moves, eventOf}
 use Rattle.logic.specs.Keys.{extra}
 use Rattle.list_grown.specs.History.{History}
-use Rattle.list_grown.specs.Counts.{Counts, tally, withKeys, plus}
+use Rattle.list_grown.specs.Counts.{Counts, noCounts, withKeys, plus}
 
 -- ---- what an event is
 
@@ -20,9 +20,9 @@ use Rattle.list_grown.specs.Counts.{Counts, tally, withKeys, plus}
 pub data Deed : Type 0 where
   called : Deed
   read : Deed
-  added : ℕ → Deed
-  marked : ℕ → Deed
-  cleaned : Deed
+  addWon : ℕ → Deed
+  markWon : ℕ → Deed
+  cleanWon : Deed
   lost : Deed
 
 -- at a place that swaps, the swap is won if the row still leads where the party expects (document 01, "The moves")
@@ -30,10 +30,10 @@ abbrev pub deedAt : Place → Table → Party → Deed
 deedAt Idle t q = read
 deedAt (Walk call k) t q = read
 deedAt (Skip call k) t q = read
-deedAt (AddSwap call k) t q = cond (eqb (nextAt t (q .p)) (q .n)) (added k) lost
-deedAt (Mark call k) t q = cond (eqb (nextAt t (q .c)) (q .s)) (marked k) lost
+deedAt (AddSwap call k) t q = cond (eqb (nextAt t (q .p)) (q .n)) (addWon k) lost
+deedAt (Mark call k) t q = cond (eqb (nextAt t (q .c)) (q .s)) (markWon k) lost
 deedAt (Reread call k) t q = read
-deedAt (Clean call k) t q = cond (eqb (nextAt t (q .p)) (q .n)) cleaned lost
+deedAt (Clean call k) t q = cond (eqb (nextAt t (q .p)) (q .n)) cleanWon lost
 deedAt (Back call k) t q = read
 deedAt (Look call k) t q = read
 
@@ -43,20 +43,21 @@ deedOf m (moves party) = deedAt (partyOf m party .place) (m .table) (partyOf m p
 
 -- ---- what it adds to the counts
 
--- calls, moves, won, lost, add swaps won, mark swaps won
 abbrev pub deedCounts : Deed → Counts
-deedCounts called = tally 1 0 0 0 0 0
-deedCounts read = tally 0 1 0 0 0 0
-deedCounts (added key) = tally 0 1 1 0 1 0
-deedCounts (marked key) = tally 0 1 1 0 0 1
-deedCounts cleaned = tally 0 1 1 0 0 0
-deedCounts lost = tally 0 1 0 1 0 0
+deedCounts called = record { calls = 1; moves = 0; won = 0; lost = 0; adds = 0; marks = 0; ins = 0; outs = 0 }
+deedCounts read = record { calls = 0; moves = 1; won = 0; lost = 0; adds = 0; marks = 0; ins = 0; outs = 0 }
+deedCounts (addWon key) = record { calls = 0; moves = 1; won = 1; lost = 0; adds = 1; marks = 0; ins = 0; outs = 0 }
+deedCounts (markWon key) = record { calls = 0; moves = 1; won = 1; lost = 0; adds = 0; marks = 1; ins = 0; outs = 0 }
+deedCounts cleanWon = record { calls = 0; moves = 1; won = 1; lost = 0; adds = 0; marks = 0; ins = 0; outs = 0 }
+deedCounts lost = record { calls = 0; moves = 1; won = 0; lost = 1; adds = 0; marks = 0; ins = 0; outs = 0 }
 
 -- a key is brought in if it is live after the event and was not before, and taken out if it was and is not any more
 abbrev pub eventCounts : Machine → Event → Counts
 eventCounts m event =
-    withKeys (extra (liveKeys (eventOf m event .memory)) (liveKeys m)) (extra (liveKeys m) (liveKeys (eventOf m event .memory))) (deedCounts (deedOf m event))
+    let before = liveKeys m in
+    let after = liveKeys (eventOf m event .memory) in
+    withKeys (extra after before) (extra before after) (deedCounts (deedOf m event))
 
 unfoldable pub countsOf : Machine → History → Counts
-countsOf m [] = tally 0 0 0 0 0 0
+countsOf m [] = noCounts
 countsOf m (first ∷ rest) = plus (eventCounts m first) (countsOf (eventOf m first .memory) rest)

@@ -7,7 +7,7 @@ use Prim.Native.Nat.{ℕ, _+_, _-_, _*_, _<_, _≤_}
 use lib.Dec.{ltb}
 use lib.ListN.{length}
 use Rattle.refusal.specs.Answer.{accepted, left, passed, refusing, leaving}
-use Rattle.list_rows.specs.Table.{Table, keyAt, backAt, isSplice}
+use Rattle.list_rows.specs.Table.{keyAt, backAt, isSplice}
 use Rattle.list_party.specs.declared.Party.{Party}
 use Rattle.list_unchecked.specs.Unchecked.{Machine, partyOf}
 use Rattle.list_form.specs.Form.{goodForm}
@@ -16,31 +16,31 @@ use Rattle.logic.specs.Sum.{oneIf, sum}
 use Rattle.list.specs.Engine.{badTable, liveKeys, placesWith, listOf}
 use Rattle.list.specs.Run.{Event, eventOf, run}
 use Rattle.logic.specs.Keys.{Rising, has, placed, without}
-use Rattle.list_grown.specs.History.{History, accepts, Accepted, heeded, keysFit, start, Grows, grown}
-use Rattle.list_grown.specs.Deeds.{Deed, called, read, added, marked, cleaned, lost, deedOf, countsOf}
+use Rattle.list_grown.specs.History.{History, accepts, AllAccepted, heeded, keysFit, start, Grows, grown}
+use Rattle.list_grown.specs.Deeds.{Deed, called, read, addWon, markWon, cleanWon, lost, deedOf, countsOf}
 
 -- ---- refused events
 
 -- they leave no trace: a history with keys of 32 bits leaves the machine that its accepted events alone leave
 abbrev pub Heeded : Type 0
-Heeded = (m : Machine) (history : History) → keysFit history ≡ true → (run m history ≡ run m (heeded m history)) × Accepted m (heeded m history)
+Heeded = (m : Machine) (history : History) → keysFit history ≡ true → (run m history ≡ run m (heeded m history)) × AllAccepted m (heeded m history)
 
 -- ---- good form
 
 -- whatever has happened since set-up, the state has good form, and the columns have a length that the engine takes
-abbrev pub Kept : Type 0
-Kept = (t : Table) (parties : ℕ) (history : History) → Grows t parties history →
-    (goodForm (grown t parties history) ≡ true) × (badTable (grown t parties history .table) ≡ false)
+abbrev pub GoodFormKept : Type 0
+GoodFormKept = (came : Machine) (parties : ℕ) (history : History) → Grows came parties history →
+    (goodForm (grown came parties history) ≡ true) × (badTable (grown came parties history .table) ≡ false)
 
 -- ---- the listing
 
 -- a party that has not published its own row holds it
-abbrev pub Holds : Party → ℕ → Type 0
-Holds q row = (q .unpublished ≡ true) × (q .own ≡ row)
+abbrev pub HoldsRow : Party → ℕ → Type 0
+HoldsRow q row = (q .unpublished ≡ true) × (q .own ≡ row)
 
 -- taken, and held by no party
 abbrev pub Published : Machine → ℕ → Type 0
-Published m row = (row < m .state .taken) × ((party : ℕ) → Holds (partyOf m party) row → ⊥)
+Published m row = (row < m .state .taken) × ((party : ℕ) → HoldsRow (partyOf m party) row → ⊥)
 
 -- a published item with this key that nobody has removed
 pub record LiveRow (m : Machine) (key : ℕ) : Type 0 where
@@ -50,9 +50,9 @@ pub record LiveRow (m : Machine) (key : ℕ) : Type 0 where
   pub keyed : keyAt (m .table) row ≡ key
 
 -- of the refusals of a listing only 10 is left; what is listed rises, and is exactly the keys of the live rows
-abbrev pub Listed : Type 0
-Listed = (t : Table) (parties : ℕ) (history : History) → Grows t parties history →
-    let m = grown t parties history in
+abbrev pub ListsLiveKeys : Type 0
+ListsLiveKeys = (came : Machine) (parties : ℕ) (history : History) → Grows came parties history →
+    let m = grown came parties history in
     ((places : List ℕ) → listOf m places
     ≡ leaving (refusing (ltb (length places) (length (liveKeys m))) 10 passed) places (left (placesWith (liveKeys m) places) (accepted (length (liveKeys m)))))
     × Rising (liveKeys m)
@@ -64,24 +64,24 @@ Listed = (t : Table) (parties : ℕ) (history : History) → Grows t parties his
 abbrev pub Changes : Deed → (before after : List ℕ) → Type 0
 Changes called before after = after ≡ before
 Changes read before after = after ≡ before
-Changes (added key) before after = (has key before ≡ false) × (after ≡ placed key before)
-Changes (marked key) before after = (has key before ≡ true) × (after ≡ without key before)
-Changes cleaned before after = after ≡ before
+Changes (addWon key) before after = (has key before ≡ false) × (after ≡ placed key before)
+Changes (markWon key) before after = (has key before ≡ true) × (after ≡ without key before)
+Changes cleanWon before after = after ≡ before
 Changes lost before after = after ≡ before
 
 -- every accepted event after every accepted history: a won add swap brings in its key alone, a won mark swap takes out its key alone
 abbrev pub Demand2 : Type 0
-Demand2 = (t : Table) (parties : ℕ) (history : History) (event : Event) → Grows t parties history →
-    let m = grown t parties history in
+Demand2 = (came : Machine) (parties : ℕ) (history : History) (event : Event) → Grows came parties history →
+    let m = grown came parties history in
     accepts m event ≡ true → Changes (deedOf m event) (liveKeys m) (liveKeys (eventOf m event .memory))
 
 -- ---- the third demand
 
 -- for every number of parties that set-up accepts, which is 1 to 16
 abbrev pub Demand3 : Type 0
-Demand3 = (t : Table) (parties : ℕ) (history : History) → Grows t parties history →
-    let m = grown t parties history in
-    let counts = countsOf (start t parties) history in
+Demand3 = (came : Machine) (parties : ℕ) (history : History) → Grows came parties history →
+    let m = grown came parties history in
+    let counts = countsOf (start came parties) history in
     (counts .lost ≤ (parties - 1) * counts .won)
     × (counts .won ≤ counts .ins + 2 * counts .outs)
     × (m .state .tallies .moves ≡ counts .moves)
@@ -95,14 +95,14 @@ abbrev pub rowsHeld : Machine → ℕ
 rowsHeld m = sum (λ party. oneIf (partyOf m party .unpublished)) (m .state .count)
 
 -- document 01, "The moves", of T: as many rows are taken as there are ends, add swaps and mark swaps won, and rows held
-abbrev pub Rows : Type 0
-Rows = (t : Table) (parties : ℕ) (history : History) → Grows t parties history →
-    let m = grown t parties history in
-    let counts = countsOf (start t parties) history in
+abbrev pub RowsTaken : Type 0
+RowsTaken = (came : Machine) (parties : ℕ) (history : History) → Grows came parties history →
+    let m = grown came parties history in
+    let counts = countsOf (start came parties) history in
     m .state .taken ≡ 4 + counts .adds + counts .marks + rowsHeld m
 
 -- document 01, "Rows and parties": only a splice has a back, and 0 means none
 abbrev pub Backs : Type 0
-Backs = (t : Table) (parties : ℕ) (history : History) → Grows t parties history →
-    let m = grown t parties history in
+Backs = (came : Machine) (parties : ℕ) (history : History) → Grows came parties history →
+    let m = grown came parties history in
     (row : ℕ) → isSplice (m .table) row ≡ false → backAt (m .table) row ≡ 0

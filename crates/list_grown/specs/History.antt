@@ -5,8 +5,7 @@ use mathlib.Core.Bool.{Bool, true, false, cond, _&&_}
 use Prim.Native.Nat.{ℕ}
 use lib.Dec.{ltb}
 use Rattle.refusal.specs.Answer.{Answer, accepted, refused, passed}
-use Rattle.list_rows.specs.Table.{Table}
-use Rattle.calls.specs.declared.Said.{Said}
+use Rattle.calls.specs.Words.{Word}
 use Rattle.list_unchecked.specs.Unchecked.{Machine}
 use Rattle.list.specs.Engine.{setUpOf}
 use Rattle.list.specs.Run.{Event, calls, moves, eventOf, run}
@@ -20,8 +19,8 @@ abbrev pub keyFits : Event → Bool
 keyFits (calls party code key) = ltb key 4294967296
 keyFits (moves party) = true
 
-abbrev pub isAccepted : Answer Said → Bool
-isAccepted (accepted said) = true
+abbrev pub isAccepted : Answer Word → Bool
+isAccepted (accepted word) = true
 isAccepted (refused number) = false
 
 -- the key fits, and the engine does not refuse the event
@@ -33,8 +32,8 @@ unfoldable pub acceptsAll : Machine → History → Bool
 acceptsAll m [] = true
 acceptsAll m (first ∷ rest) = accepts m first && acceptsAll (eventOf m first .memory) rest
 
-abbrev pub Accepted : Machine → History → Type 0
-Accepted m history = acceptsAll m history ≡ true
+abbrev pub AllAccepted : Machine → History → Type 0
+AllAccepted m history = acceptsAll m history ≡ true
 
 -- the events of a history that are accepted; a refused one is passed over
 unfoldable pub heeded : Machine → History → History
@@ -47,15 +46,15 @@ keysFit (first ∷ rest) = keyFits first && keysFit rest
 
 -- ---- lists grown from set-up
 
--- what set-up lays down in any four columns
-abbrev pub start : Table → (parties : ℕ) → Machine
-start t parties = setUpOf t parties .memory
+-- what set-up leaves, whatever came
+abbrev pub start : (came : Machine) → (parties : ℕ) → Machine
+start came parties = setUpOf came parties .memory
 
 -- set-up and every event of the history are accepted
-pub record Grows (t : Table) (parties : ℕ) (history : History) : Type 0 where
-  pub set : setUpOf t parties .answer ≡ passed
-  pub accepted : Accepted (start t parties) history
+pub record Grows (came : Machine) (parties : ℕ) (history : History) : Type 0 where
+  pub set : setUpOf came parties .answer ≡ passed
+  pub accepted : AllAccepted (start came parties) history
 
 -- the list then
-abbrev pub grown : Table → (parties : ℕ) → History → Machine
-grown t parties history = run (start t parties) history
+abbrev pub grown : (came : Machine) → (parties : ℕ) → History → Machine
+grown came parties history = run (start came parties) history

@@ -3,16 +3,15 @@ use mathlib.Core.Path.{_≡_}
 use Prim.Native.Nat.{ℕ, _+_, _-_, _*_}
 use mathlib.Core.List.{List, [], _∷_}
 use mathlib.Core.Bool.{true, false}
-use Rattle.calls.specs.declared.Said.the-variants.{No}
+use Rattle.calls.specs.Words.{no}
 use Rattle.list_rows.specs.Table.{nextAt}
 use Rattle.list.specs.Engine.{liveKeys, chainRises}
-use Rattle.list.specs.Run.{calls, moves}
-use Rattle.list.specs.Examples.{zeroTable}
+use Rattle.list.specs.Run.{calls, moves, unset}
 use Rattle.logic.specs.Keys.{has}
 use Rattle.list_grown.specs.History.{History, start, Grows, grown}
-use Rattle.list_grown.specs.Counts.{Counts, tally, withKeys}
+use Rattle.list_grown.specs.Counts.{Counts}
 use Rattle.list_grown.specs.Deeds.{countsOf}
-use Rattle.list_grown.specs.Answers.{Asked, called, found, Answered}
+use Rattle.list_grown.specs.Answers.{Pending, atCall, atAnswer, Answered}
 
 -- the run of document 01
 abbrev pub collision : History
@@ -21,8 +20,8 @@ collision =
 
 -- 2 calls, 10 moves, 2 swaps won, 1 lost; both won swaps are add swaps; 2 keys in, none out
 pub record RunOf01 : Type 0 where
-  pub grows : Grows (zeroTable 16) 2 collision
-  pub counts : countsOf (start (zeroTable 16) 2) collision ≡ withKeys 2 0 (tally 2 10 2 1 2 0)
+  pub grows : Grows (unset 16) 2 collision
+  pub counts : countsOf (start (unset 16) 2) collision ≡ record { calls = 2; moves = 10; won = 2; lost = 1; adds = 2; marks = 0; ins = 2; outs = 0 }
 
 -- three parties stand at the same swap: one wins, two lose
 abbrev pub race : History
@@ -32,9 +31,9 @@ race =
 
 -- lost = (P − 1) × won
 pub record MostLost : Type 0 where
-  pub grows : Grows (zeroTable 16) 3 race
-  pub counts : countsOf (start (zeroTable 16) 3) race ≡ withKeys 1 0 (tally 3 9 1 2 1 0)
-  pub reached : let c = countsOf (start (zeroTable 16) 3) race in c .lost ≡ (3 - 1) * c .won
+  pub grows : Grows (unset 16) 3 race
+  pub counts : countsOf (start (unset 16) 3) race ≡ record { calls = 3; moves = 9; won = 1; lost = 2; adds = 1; marks = 0; ins = 1; outs = 0 }
+  pub reached : let c = countsOf (start (unset 16) 3) race in c .lost ≡ (3 - 1) * c .won
 
 -- a key comes by one swap and goes by two
 abbrev pub comeAndGo : History
@@ -42,15 +41,15 @@ comeAndGo = calls 0 0 5 ∷ moves 0 ∷ moves 0 ∷ moves 0 ∷ calls 0 1 5 ∷ 
 
 -- won = keys in + 2 × keys out
 pub record MostWon : Type 0 where
-  pub grows : Grows (zeroTable 8) 1 comeAndGo
-  pub counts : countsOf (start (zeroTable 8) 1) comeAndGo ≡ withKeys 1 1 (tally 2 7 3 0 1 1)
-  pub reached : let c = countsOf (start (zeroTable 8) 1) comeAndGo in c .won ≡ c .ins + 2 * c .outs
+  pub grows : Grows (unset 8) 1 comeAndGo
+  pub counts : countsOf (start (unset 8) 1) comeAndGo ≡ record { calls = 2; moves = 7; won = 3; lost = 0; adds = 1; marks = 1; ins = 1; outs = 1 }
+  pub reached : let c = countsOf (start (unset 8) 1) comeAndGo in c .won ≡ c .ins + 2 * c .outs
 
 -- two parties come to take out the same key, and one is too late: it was live at the call and is not any more
-abbrev pub late : Asked
+abbrev pub late : Pending
 late =
     record {
-      table = zeroTable 12;
+      came = unset 12;
       parties = 2;
       before = calls 0 0 5 ∷ moves 0 ∷ moves 0 ∷ moves 0 ∷ calls 0 1 5 ∷ [];
       party = 1;
@@ -60,18 +59,18 @@ late =
     }
 
 pub record TooLate : Type 0 where
-  pub answered : Answered late No
-  pub at-call : has 5 (liveKeys (called late)) ≡ true
-  pub at-answer : has 5 (liveKeys (found late)) ≡ false
+  pub answered : Answered late no
+  pub at-call : has 5 (liveKeys (atCall late)) ≡ true
+  pub at-answer : has 5 (liveKeys (atAnswer late)) ≡ false
 
 -- ---- runs in which an engine with one wrong move goes wrong
 
 -- a run by two parties: it is accepted, and leaves these keys and counts, and a chain that rises
 pub record Leaves (history : History) (keys : List ℕ) (counts : Counts) : Type 0 where
-  pub grows : Grows (zeroTable 16) 2 history
-  pub keys-then : liveKeys (grown (zeroTable 16) 2 history) ≡ keys
-  pub chain-then : chainRises (grown (zeroTable 16) 2 history) ≡ true
-  pub counts-then : countsOf (start (zeroTable 16) 2) history ≡ counts
+  pub grows : Grows (unset 16) 2 history
+  pub keys-then : liveKeys (grown (unset 16) 2 history) ≡ keys
+  pub chain-then : chainRises (grown (unset 16) 2 history) ≡ true
+  pub counts-then : countsOf (start (unset 16) 2) history ≡ counts
 
 -- an ADD of a key that is being taken out leads its row on to what stands behind the removed row, not to the removed row
 abbrev pub overRemoved : History
@@ -102,13 +101,13 @@ foundAgain =
     ∷ moves 0 ∷ moves 0 ∷ moves 0 ∷ moves 0 ∷ moves 0 ∷ moves 0 ∷ []
 
 pub record Traps : Type 0 where
-  pub over-removed : Leaves overRemoved (5 ∷ []) (withKeys 2 1 (tally 3 10 3 0 2 1))
-  pub past-removed : Leaves pastRemoved (2 ∷ []) (withKeys 2 1 (tally 3 10 3 0 2 1))
-  pub back-through : Leaves backThroughSplice (1 ∷ []) (withKeys 2 1 (tally 3 15 3 1 2 1))
-  pub read-again : Leaves readAgain (3 ∷ []) (withKeys 2 1 (tally 3 12 3 1 2 1))
-  pub found-again : Leaves foundAgain (0 ∷ []) (withKeys 2 1 (tally 3 14 4 1 2 1))
+  pub over-removed : Leaves overRemoved (5 ∷ []) (record { calls = 3; moves = 10; won = 3; lost = 0; adds = 2; marks = 1; ins = 2; outs = 1 })
+  pub past-removed : Leaves pastRemoved (2 ∷ []) (record { calls = 3; moves = 10; won = 3; lost = 0; adds = 2; marks = 1; ins = 2; outs = 1 })
+  pub back-through : Leaves backThroughSplice (1 ∷ []) (record { calls = 3; moves = 15; won = 3; lost = 1; adds = 2; marks = 1; ins = 2; outs = 1 })
+  pub read-again : Leaves readAgain (3 ∷ []) (record { calls = 3; moves = 12; won = 3; lost = 1; adds = 2; marks = 1; ins = 2; outs = 1 })
+  pub found-again : Leaves foundAgain (0 ∷ []) (record { calls = 3; moves = 14; won = 4; lost = 1; adds = 2; marks = 1; ins = 2; outs = 1 })
   -- and then row 1 leads to the one key that is left, and that to row 2
-  pub cleaned-up : let t = grown (zeroTable 16) 2 foundAgain .table in nextAt t (nextAt t 1) ≡ 2
+  pub cleaned-up : let t = grown (unset 16) 2 foundAgain .table in nextAt t (nextAt t 1) ≡ 2
 
 pub record Instances : Type 0 where
   pub run-of-01 : RunOf01

@@ -3,7 +3,7 @@ use mathlib.Core.Path.{_≡_}
 use mathlib.Core.Bool.{true, false}
 use Prim.Native.Nat.{ℕ, zero, suc, _<_}
 use Rattle.list_rows.specs.Table.{Table, nextAt, isSplice}
-use Rattle.list_unchecked.specs.Unchecked.{partyOf}
+use Rattle.list_unchecked.specs.Unchecked.{Machine, partyOf}
 use Rattle.list_party.specs.Party.{isIdle}
 use Rattle.list_chain.specs.Chain.{behind}
 use Rattle.list_grown.specs.History.{History, Grows, grown}
@@ -15,7 +15,7 @@ rowAfter t (suc steps) = behind t (rowAfter t steps)
 
 -- the next of no row on it is a splice
 abbrev pub AtRest : Type 0
-AtRest = (t : Table) (parties : ℕ) (history : History) → Grows t parties history →
-    let m = grown t parties history in
+AtRest = (came : Machine) (parties : ℕ) (history : History) → Grows came parties history →
+    let m = grown came parties history in
     ((party : ℕ) → party < parties → isIdle (partyOf m party .place) ≡ true) →
     (steps : ℕ) → isSplice (m .table) (nextAt (m .table) (rowAfter (m .table) steps)) ≡ false

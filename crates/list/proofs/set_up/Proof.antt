@@ -43,4 +43,4 @@ set-up-spec =
     tie.close
     (tie.spec
     (λ c κs. search needs) (λ c. search needs) (λ c κs. search needs) small (λ c κs. search needs) (λ c. search needs)
-    (λ c κs. search needs) (λ c. search needs) (λ c. search needs) (λ c. search needs) (λ c. search needs) accepted refused)
+    (λ c. search needs) (λ c. search needs) (λ c. search needs) (λ c. search needs) accepted refused)
