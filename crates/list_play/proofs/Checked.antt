@@ -1,10 +1,10 @@
--- On good form a turn is the checked one, and the load of its key is accepted.
+-- On good form an event is the checked one, and the load of its key is accepted.
 -- Assumes nothing.
 use Prim.{Unit}
 use mathlib.Core.Path.{_≡_, refl, ap, sym, _∙_}
 use native.Mathlib.Omega.{arith}
 use Rattle.refusal.specs.Answer.{accepted, refused, Left, left, Tests, passed, leaving}
-use Rattle.calls.specs.declared.Said.{Said}
+use Rattle.calls.specs.Words.{Word}
 use Rattle.list_unchecked.specs.Unchecked.{Machine, uncheckedCall}
 use Rattle.list_form.specs.Form.{rowsIn}
 use Rattle.field.specs.Field.{fieldAt}
@@ -12,25 +12,25 @@ use Rattle.field.proofs.Promises.{loads-exactly}
 use Rattle.list.specs.Engine.{callAsks}
 use Rattle.calls.specs.Calls.{callNamed}
 use Rattle.list.specs.Run.{calls, moves, quiet, going}
-use Rattle.list.proofs.Promises.{call-is-bare, move-is-bare}
-use Rattle.list_play.specs.Turns.{plainTurn, fieldIn}
+use Rattle.list.proofs.Promises.{call-on-good-form, move-on-good-form}
+use Rattle.list_play.specs.Play.{plainEvent, fieldIn}
 use Rattle.list_play.specs.Claims.{PlainIsChecked, KeyLoads}
 
 -- a call as an event
-abbrev heard : Left Machine (Unit {0}) → Left Machine Said
+abbrev heard : Left Machine (Unit {0}) → Left Machine Word
 heard l = record { memory = l .memory; answer = quiet (l .answer) }
 
-heard-leaving : (tests : Tests) (found changed : Machine) → leaving tests found (left changed going) ≡ heard (leaving tests found
-    (left changed passed))
+heard-leaving : (tests : Tests) (found changed : Machine) →
+    leaving tests found (left changed going) ≡ heard (leaving tests found (left changed passed))
 heard-leaving (accepted done) found changed = refl
 heard-leaving (refused number) found changed = refl
 
 pub plain-is-checked : PlainIsChecked
-unfolding plainTurn
+unfolding plainEvent
 plain-is-checked m (calls party code key) fits good =
     heard-leaving (callAsks (m .state) (rowsIn (m .table)) party code) m (uncheckedCall m party (callNamed code) key)
-    ∙ sym (ap heard (call-is-bare m party code key fits good))
-plain-is-checked m (moves party) fits good = sym (move-is-bare m party fits good)
+    ∙ sym (ap heard (call-on-good-form m party code key fits good))
+plain-is-checked m (moves party) fits good = sym (move-on-good-form m party fits good)
 
 pub key-loads : KeyLoads
 unfolding fieldAt

@@ -1,4 +1,4 @@
--- The turn of an event, case by case: what the tests found, and what is then answered and left.
+-- An event, case by case: what the tests found, and what is then answered and left.
 -- Assumes nothing.
 use mathlib.Core.Path.{_≡_, ap, sym, _∙_}
 use Prim.Native.Nat.{ℕ}
@@ -11,6 +11,7 @@ use Rattle.refusal.proofs.Laws.{leaves-changed, leaves-found}
 use Rattle.refusal.proofs.Told.{tests-told}
 use Rattle.calls.specs.declared.Call.{Call}
 use Rattle.calls.specs.declared.Said.{Said}
+use Rattle.calls.specs.Words.{wordOf}
 use Rattle.list_unchecked.specs.Unchecked.{Machine, made, uncheckedCall, uncheckedMove}
 use Rattle.list_form.specs.Form.{rowsIn}
 use Rattle.field.specs.declared.Loaded.{Loaded}
@@ -20,13 +21,13 @@ use Rattle.list.specs.Engine.{callAsks, moveAsks, accepting}
 use Rattle.calls.specs.Calls.{callNamed}
 use Rattle.list.specs.Run.{calls, moves, going}
 use Rattle.script.specs.declared.CallLine.{CallLine}
-use Rattle.list_play.specs.Turns.{plainTurn, loaded}
+use Rattle.list_play.specs.Play.{plainEvent, loaded}
 
 module _ (m : Machine) (party : ℕ) where
   pub calls-on : (code key : ℕ) {verdict : Verdict} {call : Call} {after : Machine} →
       verdictIs verdict ≡ callAsks (m .state) (rowsIn (m .table)) party code → verdict ≡ Accepted → call ≡ callNamed code →
-      after ≡ uncheckedCall m party call key → left after going ≡ plainTurn m (calls party code key)
-  unfolding plainTurn
+      after ≡ uncheckedCall m party call key → left after going ≡ plainEvent m (calls party code key)
+  unfolding plainEvent
   calls-on code key asks is named made =
       rw (made, named)
       (leaves-changed (callAsks (m .state) (rowsIn (m .table)) party code) m (left (uncheckedCall m party
@@ -34,29 +35,29 @@ module _ (m : Machine) (party : ℕ) where
 
   pub calls-off : (code key : ℕ) {verdict : Verdict} {why : Refusal} →
       verdictIs verdict ≡ callAsks (m .state) (rowsIn (m .table)) party code → verdict ≡ Refused why →
-      left m (refused (numberOf why)) ≡ plainTurn m (calls party code key)
-  unfolding plainTurn
+      left m (refused (numberOf why)) ≡ plainEvent m (calls party code key)
+  unfolding plainEvent
   calls-off code key asks is =
       leaves-found (callAsks (m .state) (rowsIn (m .table)) party code) m (left (uncheckedCall m party (callNamed code) key) going)
       (tests-told asks is)
 
   pub moves-on : {verdict : Verdict} {after : Machine} {said : Said} → verdictIs verdict ≡ moveAsks (m .state) party → verdict ≡ Accepted →
-      made after said ≡ uncheckedMove m party → left after (accepted said) ≡ plainTurn m (moves party)
-  unfolding plainTurn
+      made after said ≡ uncheckedMove m party → left after (accepted (wordOf said)) ≡ plainEvent m (moves party)
+  unfolding plainEvent
   moves-on asks is made =
       ap accepting made ∙ leaves-changed (moveAsks (m .state) party) m (accepting (uncheckedMove m party)) (tests-told asks is)
 
   pub moves-off : {verdict : Verdict} {why : Refusal} → verdictIs verdict ≡ moveAsks (m .state) party → verdict ≡ Refused why →
-      left m (refused (numberOf why)) ≡ plainTurn m (moves party)
-  unfolding plainTurn
+      left m (refused (numberOf why)) ≡ plainEvent m (moves party)
+  unfolding plainEvent
   moves-off asks is = leaves-found (moveAsks (m .state) party) m (accepting (uncheckedMove m party)) (tests-told asks is)
 
 -- the load of a line's key: it is there, or it is refused
 module _ (m : Machine) (c : CallLine) {field : Loaded} {answer : Answer ℕ} (load : loadedIs field ≡ answer) where
-  pub key-there : {wanted : ℕ} → field ≡ Key wanted → plainTurn m (calls (c .party) (c .code) wanted) ≡ loaded plainTurn m c answer
+  pub key-there : {wanted : ℕ} → field ≡ Key wanted → plainEvent m (calls (c .party) (c .code) wanted) ≡ loaded plainEvent m c answer
   unfolding loaded
-  key-there is = ap (loaded plainTurn m c) (sym (ap loadedIs is) ∙ load)
+  key-there is = ap (loaded plainEvent m c) (sym (ap loadedIs is) ∙ load)
 
-  pub key-refused : {why : Refusal} → field ≡ NotLoaded why → left m (refused (numberOf why)) ≡ loaded plainTurn m c answer
+  pub key-refused : {why : Refusal} → field ≡ NotLoaded why → left m (refused (numberOf why)) ≡ loaded plainEvent m c answer
   unfolding loaded
-  key-refused is = ap (loaded plainTurn m c) (sym (ap loadedIs is) ∙ load)
+  key-refused is = ap (loaded plainEvent m c) (sym (ap loadedIs is) ∙ load)

@@ -1,4 +1,4 @@
--- Why turns are as promised.
+-- Why a line does what is promised.
 pub mod Laws
 pub mod Checked
 pub mod Determined

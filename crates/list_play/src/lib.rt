@@ -1,23 +1,23 @@
-// The turn of a line on a list that a program has set up itself: the refusals but 1 and 3, then the bare call or the bare move.
-use field::Loaded;
+// A line on a list that a program has set up itself: the refusals but 1 and 3, then the unchecked call or move.
+use calls::Call;
 use calls::Reply;
+use calls::Said;
+use field::Loaded;
 use list::Stepped;
 use list::call_asks;
-use list::call_named;
 use list::move_asks;
-use calls::Said;
 use list_party::State;
 use refusal::Verdict;
 use script::CallLine;
 use script::Line;
 ghost use mathlib.Core.Path.{_≡_};
-ghost use Rattle.list_rows.specs.Table.{tab};
+ghost use Rattle.list_rows.specs.Table.{before, after};
 ghost use Rattle.list_unchecked.specs.Unchecked.{machine};
 ghost use Rattle.list.specs.Run.{calls, moves};
 ghost use Rattle.list.specs.Answers.{stepIs};
 ghost use Rattle.field.specs.Field.{loadOf};
 ghost use Rattle.field.specs.Readings.{loadedIs};
-ghost use Rattle.list_play.specs.Turns.{plainTurn, fieldIn, partyIn, loaded, lineTurn};
+ghost use Rattle.list_play.specs.Play.{plainEvent, fieldIn, partyIn, loaded, lineOf};
 
 // Starts a call of a party.
 fn plain_call(
@@ -30,7 +30,8 @@ fn plain_call(
     code: u32,
     wanted: u32,
 ) -> Stepped
-    ensures { λ r. ⌜ stepIs (tab (now (kind .exit)) (now (key .exit)) (now (next .exit)) (now (back .exit))) r ≡ plainTurn (machine (tab (now (kind .entry)) (now (key .entry)) (now (next .entry)) (now (back .entry))) state) (calls party code wanted) ⌝ }
+    ensures { λ r. ⌜ stepIs (after kind key next back) r
+        ≡ plainEvent (machine (before kind key next back) state) (calls party code wanted) ⌝ }
 {
     let verdict = call_asks(state, kind.len(), party, code);
     match verdict {
@@ -42,7 +43,7 @@ fn plain_call(
                 back,
                 state,
                 party,
-                call_named(code),
+                Call::named(code),
                 wanted,
             );
             Stepped {
@@ -66,7 +67,8 @@ fn plain_move(
     state: State,
     party: u32,
 ) -> Stepped
-    ensures { λ r. ⌜ stepIs (tab (now (kind .exit)) (now (key .exit)) (now (next .exit)) (now (back .exit))) r ≡ plainTurn (machine (tab (now (kind .entry)) (now (key .entry)) (now (next .entry)) (now (back .entry))) state) (moves party) ⌝ }
+    ensures { λ r. ⌜ stepIs (after kind key next back) r
+        ≡ plainEvent (machine (before kind key next back) state) (moves party) ⌝ }
 {
     let verdict = move_asks(state, party);
     match verdict {
@@ -95,7 +97,7 @@ fn load_field(line: CallLine, order: u32) -> Loaded
 }
 
 // Loads the key of a line and starts its call.
-fn call_turn(
+fn play_call(
     kind: &mut [u8],
     key: &mut [u32],
     next: &mut [u16],
@@ -104,7 +106,8 @@ fn call_turn(
     order: u32,
     line: CallLine,
 ) -> Stepped
-    ensures { λ r. ⌜ stepIs (tab (now (kind .exit)) (now (key .exit)) (now (next .exit)) (now (back .exit))) r ≡ loaded plainTurn (machine (tab (now (kind .entry)) (now (key .entry)) (now (next .entry)) (now (back .entry))) state) line (loadOf (fieldIn line) 0 order) ⌝ }
+    ensures { λ r. ⌜ stepIs (after kind key next back) r
+        ≡ loaded plainEvent (machine (before kind key next back) state) line (loadOf (fieldIn line) 0 order) ⌝ }
 {
     let field = load_field(line, order);
     match field {
@@ -137,8 +140,8 @@ pub fn party_in(line: Line) -> u32
     }
 }
 
-// The turn of a line in a schedule of this byte order; a line without call and step changes nothing.
-pub fn line_turn(
+// A line of a schedule of this byte order: its call or its step. A line without either changes nothing. Does not test for 1 and 3.
+pub fn play_line(
     kind: &mut [u8],
     key: &mut [u32],
     next: &mut [u16],
@@ -147,10 +150,11 @@ pub fn line_turn(
     order: u32,
     line: Line,
 ) -> Stepped
-    ensures { λ r. ⌜ stepIs (tab (now (kind .exit)) (now (key .exit)) (now (next .exit)) (now (back .exit))) r ≡ lineTurn plainTurn order (machine (tab (now (kind .entry)) (now (key .entry)) (now (next .entry)) (now (back .entry))) state) line ⌝ }
+    ensures { λ r. ⌜ stepIs (after kind key next back) r
+        ≡ lineOf plainEvent order (machine (before kind key next back) state) line ⌝ }
 {
     match line {
-        Line::Call(c) => call_turn(kind, key, next, back, state, order, c),
+        Line::Call(c) => play_call(kind, key, next, back, state, order, c),
         Line::Step(party, _) => plain_move(kind, key, next, back, state, party),
         Line::End(_, _) => Stepped {
             state,

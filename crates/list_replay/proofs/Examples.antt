@@ -12,16 +12,16 @@ use Rattle.field.specs.Field as field
 use Rattle.list.specs.Engine.{setUpOf, callOf, moveOf}
 use Rattle.text.specs.Reading.{word, placeAfter, digitOf, nextDigit, hexOf, pairAt, fieldAt}
 use Rattle.page.specs.Page.{digits}
-use Rattle.report.specs.Lines.{callName, askedText, answerLine, refusedLine, heard, saidBy, numberLine, keyLines, tallyLines}
+use Rattle.report.specs.Lines.{askedText, answerLine, refusedLine, heard, replyLine, numberLine, keyLines, tallyLines}
 use Rattle.script.specs.Lines.{verbAt, callLine, stepLine, endLine, lineAt}
 use Rattle.script.specs.Head.{rowsOf, partiesLine, nodesLine, orderLine, firstLost, headOf}
 use Rattle.script.specs.Body.{mostLines, bodyFrom, endBad, lastBad, badFrom, firstBad}
-use Rattle.list_play.specs.Turns.{loaded, lineTurn}
+use Rattle.list_play.specs.Play.{loaded, lineOf}
 use Rattle.list_replay.specs.Output.{lineSays, saysFrom, lastOf, closing, outputBy}
 use Rattle.list_replay.specs.Examples.{Examples}
 
 pub examples : Examples
-unfolding word placeAfter digitOf nextDigit hexOf pairAt fieldAt digits callName askedText answerLine refusedLine heard saidBy numberLine keyLines tallyLines verbAt callLine stepLine endLine lineAt rowsOf partiesLine nodesLine orderLine firstLost headOf mostLines bodyFrom endBad lastBad badFrom firstBad loaded lineTurn lineSays saysFrom lastOf closing outputBy setUpOf callOf moveOf rises liveFrom goodRows goodParties goodForm kindsFit keysFit linksFit recordFits partiesFit uncheckedCall begunOf uncheckedMove walkOf onwardOf landedAddOf landedUnmarkedOf landedMarkedOf landedRemoveOf landedContainsOf prepareOf skipOf addSwapOf markOf rereadOf cleanOf backOf lookOnOf lookOf rank numberIn fieldTests loadOf field.fieldAt
+unfolding word placeAfter digitOf nextDigit hexOf pairAt fieldAt digits askedText answerLine refusedLine heard replyLine numberLine keyLines tallyLines verbAt callLine stepLine endLine lineAt rowsOf partiesLine nodesLine orderLine firstLost headOf mostLines bodyFrom endBad lastBad badFrom firstBad loaded lineOf lineSays saysFrom lastOf closing outputBy setUpOf callOf moveOf rises liveFrom goodRows goodParties goodForm kindsFit keysFit linksFit recordFits partiesFit uncheckedCall begunOf uncheckedMove walkOf onwardOf landedAddOf landedUnmarkedOf landedMarkedOf landedRemoveOf landedContainsOf prepareOf skipOf addSwapOf markOf rereadOf cleanOf backOf lookOnOf lookOf rank numberIn fieldTests loadOf field.fieldAt
 examples = record {
   runs = record {
     empty = refl;

@@ -12,7 +12,7 @@ use Rattle.refusal.specs.Answer.{passed}
 use Rattle.columns.specs.Column.{zeros}
 use Rattle.list_rows.specs.Table.{tab}
 use Rattle.list.specs.Engine.{setUpOf}
-use Rattle.list.specs.Run.{run, fresh}
+use Rattle.list.specs.Run.{run, unset, fresh}
 use Rattle.list_grown.specs.History.{keysFit}
 use Rattle.report.specs.Lines.{badLine}
 use Rattle.script.specs.declared.Head.{Head}
@@ -62,7 +62,7 @@ head-good text head none =
 
 -- columns and parties within their bounds can be set up
 set-up-passes : (rows parties : ℕ) → 4 ≤ rows → rows ≤ 4096 → 1 ≤ parties → parties ≤ 16 →
-    setUpOf (tab (zeros rows) (zeros rows) (zeros rows) (zeros rows)) parties .answer ≡ passed
+    setUpOf (unset rows) parties .answer ≡ passed
 unfolding setUpOf
 set-up-passes rows parties low high some few =
     rw (
@@ -84,7 +84,7 @@ module _ (text : List ℕ) (short : length text ≤ 65536) (good : headOf text .
       let rows = headOf text .nodes in
       let h = good-head text (omega arith) good in
       record {
-        table = tab (zeros rows) (zeros rows) (zeros rows) (zeros rows);
+        came = unset rows;
         parties = headOf text .parties;
         history = [];
         set = set-up-passes rows (headOf text .parties) (h .2) (h .3) (h .0) (h .1);

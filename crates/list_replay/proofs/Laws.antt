@@ -1,5 +1,6 @@
 -- A run line by line, and the places that a listing has filled.
 -- Assumes nothing.
+use Prim.{Unit}
 use mathlib.Core.Path.{_≡_, refl, ap, sym, _∙_}
 use mathlib.Core.Bool.{false}
 use mathlib.Core.List.{List, [], _∷_, _++_, append-assoc}
@@ -11,28 +12,40 @@ use Rattle.refusal.specs.Answer.{Answer, accepted, refused, Left, left}
 use Rattle.refusal.proofs.Laws.{change-past, leaves-changed}
 use Rattle.refusal.specs.declared.Refusal.{Refusal}
 use Rattle.columns.specs.Column.{zeros}
+use Rattle.calls.specs.declared.Asked.{Asked}
 use Rattle.list_party.specs.declared.Party.{Party}
-use Rattle.calls.specs.declared.Said.{Said}
-use Rattle.list_unchecked.specs.Unchecked.{Machine, partyOf}
-use Rattle.list.specs.Engine.{liveKeys, listTests, placesWith, listOf}
+use Rattle.list_party.specs.Party.{askedAt}
+use Rattle.calls.specs.Words.{Word}
+use Rattle.list_rows.specs.Table.{Table}
+use Rattle.list_party.specs.declared.State.{State}
+use Rattle.list_party.specs.State.{restingState}
+use Rattle.list_unchecked.specs.Unchecked.{Machine, machine, partyOf}
+use Rattle.list.specs.Engine.{setUpOf, liveKeys, listTests, placesWith, listOf}
 use Rattle.list.specs.declared.Listed.{Listed}
 use Rattle.list.specs.declared.Listed.the-variants.{Keys, Refused}
 use Rattle.list.specs.Answers.{listedIs}
-use Rattle.report.specs.Lines.{saidBy}
+use Rattle.report.specs.Lines.{replyLine}
 use Rattle.script.specs.declared.Line.{Line}
 use Rattle.script.specs.Lines.{lineAt, endsBody, nextOf}
 use Rattle.script.specs.Body.{bodyFrom}
 use Rattle.script.proofs.Laws.{body-on}
-use Rattle.list_play.specs.Turns.{TakesEvent, plainTurn, partyIn, lineTurn}
+use Rattle.list_play.specs.Play.{TakesEvent, plainEvent, partyIn, lineOf}
 use Rattle.list_replay.specs.Output.{keysLeft, plain, lineSays, saysFrom, lastOf, closing, played}
 
 -- what is printed for a line, by the party, its record and the answer as the code has them
-pub says-so : (turn : TakesEvent) (order : ℕ) (m : Machine) (number : ℕ) (line : Line) {party : ℕ} {before : Party} {answer : Answer Said} →
-    party ≡ partyIn line → before ≡ partyOf m party → answer ≡ lineTurn turn order m line .answer →
-    saidBy number party (before .place) answer ≡ lineSays turn order m number line
+pub says-so : (takes : TakesEvent) (order : ℕ) (m : Machine) (number : ℕ) (line : Line) {party : ℕ} {before : Party} {asks : Asked} {answer : Answer Word} →
+    party ≡ partyIn line → before ≡ partyOf m party → asks ≡ askedAt (before .place) → answer ≡ lineOf takes order m line .answer →
+    replyLine number party asks answer ≡ lineSays takes order m number line
 unfolding lineSays
-says-so turn order m number line names record-of answers =
-    rw (record-of, names, answers)
+says-so takes order m number line names record-of carries answers = rw (carries, record-of, names, answers)
+
+-- ---- the start of a run
+
+-- what is played on a list that was set up over the state that a program starts with
+pub set-up-first : (order parties : ℕ) (t : Table) (lines : List Line) {first : State} {set : Left Machine (Unit {0})} →
+    first ≡ restingState 0 0 → set ≡ setUpOf (machine t first) parties →
+    played plain order (set .memory) 0 lines ≡ played plain order (setUpOf (machine t (restingState 0 0)) parties .memory) 0 lines
+set-up-first order parties t lines rests sets = rw (sets, rests)
 
 -- ---- the rest of a run
 
@@ -46,17 +59,17 @@ module _ (text : List ℕ) (order : ℕ) (m : Machine) (seen at left : ℕ) wher
   played-end done = ap (played plain order m seen) (sym done)
 
   pub played-on : (line : Line) {after : Machine} {next : ℕ} → 0 < left → line ≡ lineAt text at → endsBody line ≡ false →
-      after ≡ lineTurn plainTurn order m line .memory → next ≡ nextOf line →
-      lineSays plainTurn order m (seen + 4) line ++ playedFrom text order after (seen + 1) next
+      after ≡ lineOf plainEvent order m line .memory → next ≡ nextOf line →
+      lineSays plainEvent order m (seen + 4) line ++ playedFrom text order after (seen + 1) next
       (left - 1) ≡ playedFrom text order m seen at left
   unfolding saysFrom lastOf
   played-on line some here goes turns leads =
       let l = lineAt text at in
-      let m′ = lineTurn plainTurn order m l .memory in
+      let m′ = lineOf plainEvent order m l .memory in
       let rest = bodyFrom text (nextOf l) (left - 1) in
       rw (turns, leads, here)
-      (sym (append-assoc (lineSays plainTurn order m (seen + 4) l) (saysFrom plainTurn order m′ (seen + 1) rest) (closing plain
-      (lastOf plainTurn order m′ rest)))
+      (sym (append-assoc (lineSays plainEvent order m (seen + 4) l) (saysFrom plainEvent order m′ (seen + 1) rest) (closing plain
+      (lastOf plainEvent order m′ rest)))
       ∙ ap (played plain order m seen) (sym (body-on text at left some (rw here at goes))))
 
 -- ---- the listing

@@ -7,18 +7,19 @@ use native.Mathlib.Omega.{arith}
 use lib.ListN.{length, length-append}
 use lib.Dec.{ltb}
 use borrow.Author.Tests.{ltb-false}
+use Rattle.list_party.specs.Party.{askedAt}
 use Rattle.list_unchecked.specs.Unchecked.{Machine, partyOf}
 use Rattle.list.specs.Engine.{liveKeys}
 use Rattle.list.specs.Run.{eventOf, fresh}
 use Rattle.logic.specs.Quoted.{bytes}
 use Rattle.page.proofs.Room.{room}
 use Rattle.report.specs.Lines.{badLine}
-use Rattle.report.proofs.Room.{said-short, number-short, keys-short, tallies-short}
+use Rattle.report.proofs.Room.{reply-short, number-short, keys-short, tallies-short}
 use Rattle.script.specs.declared.Line.{Line}
 use Rattle.script.specs.Lines.{lineAt, endsBody, nextOf}
 use Rattle.script.specs.Head.{headOf}
 use Rattle.script.specs.Body.{mostLines, bodyFrom, bodyOf, firstBad}
-use Rattle.list_play.specs.Turns.{partyIn, lineTurn}
+use Rattle.list_play.specs.Play.{partyIn, lineOf}
 use Rattle.logic.proofs.Cases.{on-cond}
 use Rattle.list_replay.specs.Output.{checked, lineSays, saysFrom, lastOf, closing, judged, outputBy, outputOf}
 use Rattle.list_replay.specs.Claims.{OutputFits, WholeOutput}
@@ -35,8 +36,8 @@ answers-short order m seen (line ∷ rest) =
     simp length-append
     (omega (
       arith,
-      said-short (seen + 4) (partyIn line) (partyOf m (partyIn line) .place) (lineTurn eventOf order m line .answer),
-      answers-short order (lineTurn eventOf order m line .memory) (seen + 1) rest,
+      reply-short (seen + 4) (partyIn line) (askedAt (partyOf m (partyIn line) .place)) (lineOf eventOf order m line .answer),
+      answers-short order (lineOf eventOf order m line .memory) (seen + 1) rest,
     ))
 
 body-short : (text : List ℕ) (at left : ℕ) → length (bodyFrom text at left) ≤ left
@@ -51,7 +52,7 @@ body-short text at (suc left) =
 
 closing-short : (m : Machine) → Sound m → length (closing checked m) ≤ 102505
 unfolding closing
-closing-short m s = simp length-append (omega (arith, keys-short (liveKeys m), few-keys m s, tallies-short (m .state)))
+closing-short m s = simp length-append (omega (arith, keys-short (liveKeys m), few-keys m s, tallies-short (m .state .tallies) (m .state .taken)))
 
 -- ---- the output
 

@@ -27,10 +27,10 @@ use Rattle.script.specs.declared.Line.{Line}
 use Rattle.script.specs.declared.Line.the-variants.{Call, Step, End, Bad}
 use Rattle.script.specs.Lines.{lineAt, callLine, stepLine, endLine, endsBody, nextOf}
 use Rattle.script.specs.Body.{bodyFrom}
-use Rattle.list_play.specs.Turns.{plainTurn, fieldIn, loaded, lineTurn}
+use Rattle.list_play.specs.Play.{plainEvent, fieldIn, loaded, lineOf}
 use Rattle.logic.proofs.Cases.{on-cond}
 use Rattle.list_replay.specs.Output.{checked, listed, keysLeft, plain, lineSays, saysFrom, lastOf, closing, played}
-use Rattle.list_replay.proofs.Sound.{Sound, sound-turn, plain-turn, sound-listing}
+use Rattle.list_replay.proofs.Sound.{Sound, sound-event, plain-same, sound-listing}
 
 -- ---- lines whose fields are bytes
 
@@ -84,40 +84,40 @@ key-small c order key all e =
     let told = answer-past (fieldTests 4 0 order) (fieldAt (orderOf order) 4 (fieldIn c) 0) key e .1 in
     rw (← told) (lt-ltb _ 4294967296 (number-below-power (orderOf order) (fieldIn c) all))
 
--- a line's turn is the checked one, and leaves a list that is sound again
-pub record SameTurn (order : ℕ) (m : Machine) (line : Line) : Type 0 where
-  pub path : lineTurn plainTurn order m line ≡ lineTurn eventOf order m line
-  pub sound : Sound (lineTurn eventOf order m line .memory)
+-- a line does what the checked one does, and leaves a list that is sound again
+pub record SameLine (order : ℕ) (m : Machine) (line : Line) : Type 0 where
+  pub path : lineOf plainEvent order m line ≡ lineOf eventOf order m line
+  pub sound : Sound (lineOf eventOf order m line .memory)
 
 call-same : (order : ℕ) (m : Machine) (c : CallLine) (answer : Answer ℕ) → loadOf (fieldIn c) 0 order ≡ answer → Sound m → Bytes
     (fieldIn c) →
-    (loaded plainTurn m c answer ≡ loaded eventOf m c answer) × Sound (loaded eventOf m c answer .memory)
+    (loaded plainEvent m c answer ≡ loaded eventOf m c answer) × Sound (loaded eventOf m c answer .memory)
 unfolding loaded
 call-same order m c (accepted key) e s all =
-    (plain-turn m s (calls (c .party) (c .code) key), sound-turn m (calls (c .party) (c .code) key) s (key-small c order key all e))
+    (plain-same m s (calls (c .party) (c .code) key), sound-event m (calls (c .party) (c .code) key) s (key-small c order key all e))
 call-same order m c (refused number) e s all = (refl, s)
 
-turn-same : (order : ℕ) (m : Machine) (line : Line) → Sound m → Fits line → SameTurn order m line
-unfolding lineTurn
-turn-same order m (Call c) s fits = let r = call-same order m c (loadOf (fieldIn c) 0 order) refl s fits in
+line-same : (order : ℕ) (m : Machine) (line : Line) → Sound m → Fits line → SameLine order m line
+unfolding lineOf
+line-same order m (Call c) s fits = let r = call-same order m c (loadOf (fieldIn c) 0 order) refl s fits in
     record { path = r .0; sound = r .1 }
-turn-same order m (Step party next) s fits = record { path = plain-turn m s (moves party); sound = sound-turn m (moves party) s refl }
-turn-same order m (End count next) s fits = record { path = refl; sound = s }
-turn-same order m Bad s fits = record { path = refl; sound = s }
+line-same order m (Step party next) s fits = record { path = plain-same m s (moves party); sound = sound-event m (moves party) s refl }
+line-same order m (End count next) s fits = record { path = refl; sound = s }
+line-same order m Bad s fits = record { path = refl; sound = s }
 
 -- ---- all lines
 
 pub record SameRun (order : ℕ) (m : Machine) (seen : ℕ) (lines : List Line) : Type 0 where
-  pub answers : saysFrom plainTurn order m seen lines ≡ saysFrom eventOf order m seen lines
-  pub last : lastOf plainTurn order m lines ≡ lastOf eventOf order m lines
+  pub answers : saysFrom plainEvent order m seen lines ≡ saysFrom eventOf order m seen lines
+  pub last : lastOf plainEvent order m lines ≡ lastOf eventOf order m lines
   pub sound : Sound (lastOf eventOf order m lines)
 
 pub run-same : (order : ℕ) (m : Machine) (seen : ℕ) (lines : List Line) → Sound m → AllFit lines → SameRun order m seen lines
 unfolding saysFrom lastOf lineSays AllFit
 run-same order m seen [] s fits = record { answers = refl; last = refl; sound = s }
 run-same order m seen (line ∷ rest) s fits =
-    let one = turn-same order m line s (fits .0) in
-    let all = run-same order (lineTurn eventOf order m line .memory) (seen + 1) rest (one .sound) (fits .1) in
+    let one = line-same order m line s (fits .0) in
+    let all = run-same order (lineOf eventOf order m line .memory) (seen + 1) rest (one .sound) (fits .1) in
     record {
       answers = rw (one .path) (ap (λ (l : List ℕ). lineSays eventOf order m (seen + 4) line ++ l) (all .answers));
       last = rw (one .path) (all .last);
@@ -134,7 +134,7 @@ listed-same m s =
 
 closing-same : (m : Machine) → Sound m → closing plain m ≡ closing checked m
 unfolding closing
-closing-same m s = ap (λ (keys : List ℕ). keyLines keys ++ tallyLines (m .state)) (listed-same m s)
+closing-same m s = ap (λ (keys : List ℕ). keyLines keys ++ tallyLines (m .state .tallies) (m .state .taken)) (listed-same m s)
 
 pub played-same : (order : ℕ) (m : Machine) (seen : ℕ) (lines : List Line) → SameRun order m seen lines →
     played plain order m seen lines ≡ played checked order m seen lines

@@ -1,4 +1,4 @@
--- Every list that a schedule has grown: on it the bare turn is the checked one, and a listing lists the live keys.
+-- Every list that a schedule has grown: on it an event without tests of the form is the checked one, and a listing lists the live keys.
 -- Assumes nothing.
 use mathlib.Core.Path.{_≡_, refl, ap, sym, _∙_}
 use mathlib.Core.Bool.{Bool, true, false}
@@ -20,20 +20,19 @@ use Rattle.list.specs.Run.{Event, eventOf, run}
 use Rattle.list.proofs.Laws.{table-fits}
 use Rattle.list_grown.specs.History.{History, keyFits, keysFit, heeded, start, Grows, grown}
 use Rattle.list_grown.proofs.Heeded.{all-heeded}
-use Rattle.list_grown.proofs.Demands.{kept}
-use Rattle.list_grown.proofs.Demands as demands
+use Rattle.list_grown.proofs.Demands.{good-form-kept, lists-live-keys}
 use Rattle.logic.proofs.Cases.{on-cond}
-use Rattle.list_play.specs.Turns.{plainTurn}
+use Rattle.list_play.specs.Play.{plainEvent}
 use Rattle.list_play.proofs.Checked.{plain-is-checked}
 
 -- a list grown from a set-up by events whose keys have 32 bits; some of them may have been refused
 pub record Sound (m : Machine) : Type 0 where
-  pub table : Table
+  pub came : Machine
   pub parties : ℕ
   pub history : History
-  pub set : setUpOf table parties .answer ≡ passed
+  pub set : setUpOf came parties .answer ≡ passed
   pub fit : keysFit history ≡ true
-  pub path : m ≡ run (start table parties) history
+  pub path : m ≡ run (start came parties) history
 
 -- ---- one event more
 
@@ -48,15 +47,15 @@ fit-more [] event h e = rw e
 fit-more (first ∷ rest) event h e =
     and-both (and-left (keyFits first) (keysFit rest) h) (fit-more rest event (and-right (keyFits first) (keysFit rest) h) e)
 
-pub sound-turn : (m : Machine) (event : Event) → Sound m → keyFits event ≡ true → Sound (eventOf m event .memory)
-sound-turn m event s e =
+pub sound-event : (m : Machine) (event : Event) → Sound m → keyFits event ≡ true → Sound (eventOf m event .memory)
+sound-event m event s e =
     record {
-      table = s .table;
+      came = s .came;
       parties = s .parties;
       history = s .history ++ (event ∷ []);
       set = s .set;
       fit = fit-more (s .history) event (s .fit) e;
-      path = ap (λ (x : Machine). eventOf x event .memory) (s .path) ∙ sym (run-more (start (s .table) (s .parties)) (s .history) event);
+      path = ap (λ (x : Machine). eventOf x event .memory) (s .path) ∙ sym (run-more (start (s .came) (s .parties)) (s .history) event);
     }
 
 -- ---- what is known of grown lists
@@ -64,22 +63,22 @@ sound-turn m event s e =
 module _ (m : Machine) (s : Sound m) where
   -- the events that were accepted
   abbrev heard : History
-  heard = heeded (start (s .table) (s .parties)) (s .history)
+  heard = heeded (start (s .came) (s .parties)) (s .history)
 
-  grows : Grows (s .table) (s .parties) heard
-  grows = record { set = s .set; accepted = all-heeded (start (s .table) (s .parties)) (s .history) (s .fit) .1 }
+  grows : Grows (s .came) (s .parties) heard
+  grows = record { set = s .set; accepted = all-heeded (start (s .came) (s .parties)) (s .history) (s .fit) .1 }
 
-  is-grown : m ≡ grown (s .table) (s .parties) heard
-  is-grown = s .path ∙ all-heeded (start (s .table) (s .parties)) (s .history) (s .fit) .0
+  is-grown : m ≡ grown (s .came) (s .parties) heard
+  is-grown = s .path ∙ all-heeded (start (s .came) (s .parties)) (s .history) (s .fit) .0
 
   pub sound-form : goodForm m ≡ true
-  sound-form = rw is-grown (kept (s .table) (s .parties) heard grows .0)
+  sound-form = rw is-grown (good-form-kept (s .came) (s .parties) heard grows .0)
 
   pub sound-fits : badTable (m .table) ≡ false
-  sound-fits = rw is-grown (kept (s .table) (s .parties) heard grows .1)
+  sound-fits = rw is-grown (good-form-kept (s .came) (s .parties) heard grows .1)
 
-  pub plain-turn : (event : Event) → plainTurn m event ≡ eventOf m event
-  plain-turn event = plain-is-checked m event sound-fits sound-form
+  pub plain-same : (event : Event) → plainEvent m event ≡ eventOf m event
+  plain-same event = plain-is-checked m event sound-fits sound-form
 
 -- ---- the listing
 
@@ -108,6 +107,6 @@ module _ (m : Machine) (s : Sound m) where
   sound-listing places enough =
       let g = is-grown m s in
       let few : length (liveKeys m) ≤ length places = omega (arith, few-keys) in
-      let told = rw (← g) at (demands.listed (s .table) (s .parties) (heard m s) (grows m s) .0 places) in
+      let told = rw (← g) at (lists-live-keys (s .came) (s .parties) (heard m s) (grows m s) .0 places) in
       told ∙ ap (λ (b : Bool). leaving (refusing b 10 passed) places (left (placesWith (liveKeys m) places) (accepted (length
       (liveKeys m))))) (le-ltb (length places) (length (liveKeys m)) few)

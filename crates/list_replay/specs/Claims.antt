@@ -12,17 +12,20 @@ use Rattle.script.specs.Head.{headOf}
 use Rattle.script.specs.Body.{bodyOf, firstBad}
 use Rattle.list_replay.specs.Output.{plain, lastOf, outputBy, outputOf}
 
--- the bare calls and moves and the listing print what the checked calls and moves and the live keys would
+-- calls and moves without tests of the form, and the listing, print what checked calls and moves and the live keys would
 abbrev pub SameOutput : Type 0
 SameOutput = (text : List ℕ) → outputBy plain text ≡ outputOf text
 
 -- the list at the end of a good text
 abbrev pub endOf : List ℕ → Machine
-endOf text = lastOf eventOf (headOf text .order) (fresh (headOf text .nodes) (headOf text .parties)) (bodyOf text (headOf text))
+endOf text =
+    let head = headOf text in
+    lastOf eventOf (head .order) (fresh (head .nodes) (head .parties)) (bodyOf text head)
 
 -- at the end of a good text a listing into 4,096 places is not refused, and lists the live keys
 abbrev pub ListingStands : Type 0
-ListingStands = (text places : List ℕ) → length text ≤ 65536 → firstBad text (headOf text) ≡ 0 → 4096 ≤ length places →
+ListingStands =
+    (text places : List ℕ) → length text ≤ 65536 → firstBad text (headOf text) ≡ 0 → 4096 ≤ length places →
     listOf (endOf text) places ≡ left (placesWith (liveKeys (endOf text)) places) (accepted (length (liveKeys (endOf text))))
 
 -- no text has a longer output

@@ -3,8 +3,8 @@ use list::Listed;
 use list::listing;
 use list::set_up;
 use list_party::State;
-use list_play::line_turn;
 use list_play::party_in;
+use list_play::play_line;
 use report::put_bad;
 use report::put_keys;
 use report::put_reply;
@@ -19,23 +19,24 @@ use script::next_of;
 use script::read_head;
 ghost use mathlib.Core.Path.{_≡_};
 ghost use Prim.Native.Nat.{_≤_};
-ghost use Rattle.page.specs.Page.{page, Wrote};
-ghost use Rattle.list_rows.specs.Table.{tab};
+ghost use Rattle.page.specs.Page.{Puts};
+ghost use Rattle.list_rows.specs.Table.{before, after};
+ghost use Rattle.list_party.specs.State.{restingState};
 ghost use Rattle.list_unchecked.specs.Unchecked.{machine};
 ghost use Rattle.list.specs.Engine.{setUpOf};
 ghost use Rattle.list.specs.Run.{fresh};
 ghost use Rattle.report.specs.Lines.{keyLines};
 ghost use Rattle.script.specs.Body.{bodyOf};
-ghost use Rattle.list_play.specs.Turns.{plainTurn, lineTurn};
+ghost use Rattle.list_play.specs.Play.{plainEvent, lineOf};
 ghost use Rattle.list_replay.specs.Output.{listed, closing, plain, lineSays, played, outputOf};
 
 // The state after a line, and the place behind what was printed for it.
-struct Turn {
+struct Ran {
     state: State,
     to: usize,
 }
 
-// The turn of the line of this number, and what is printed for it.
+// Plays the line of this number, and prints what comes of it.
 fn run_line(
     kind: &mut [u8],
     key: &mut [u32],
@@ -47,17 +48,20 @@ fn run_line(
     number: usize,
     out: &mut [u8],
     to: usize,
-) -> Turn
-    ensures { λ t. ⌜ (machine (tab (now (kind .exit)) (now (key .exit)) (now (next .exit)) (now (back .exit))) (t .state) ≡ lineTurn plainTurn order (machine (tab (now (kind .entry)) (now (key .entry)) (now (next .entry)) (now (back .entry))) state) line .memory) × (Wrote (page (now (out .entry)) to) (lineSays plainTurn order (machine (tab (now (kind .entry)) (now (key .entry)) (now (next .entry)) (now (back .entry))) state) number line) (page (now (out .exit)) (t .to))) ⌝ }
+) -> Ran
+    ensures { λ r. ⌜ (machine (after kind key next back) (r .state)
+        ≡ lineOf plainEvent order (machine (before kind key next back) state) line .memory)
+        × (Puts out to (lineSays plainEvent order (machine (before kind key next back) state) number line) (r .to)) ⌝ }
 {
     let party = party_in(line);
     let before = state.party_at(party);
     let place = before.place;
-    let done = line_turn(kind, key, next, back, state, order, line);
+    let asked = place.asked();
+    let done = play_line(kind, key, next, back, state, order, line);
     let after = done.state;
     let reply = done.reply;
-    let on = put_reply(out, to, number, party, place, reply);
-    Turn {
+    let on = put_reply(out, to, number, party, asked, reply);
+    Ran {
         state: after,
         to: on,
     }
@@ -73,7 +77,7 @@ fn put_live(
     out: &mut [u8],
     to: usize,
 ) -> usize
-    ensures { λ r. ⌜ Wrote (page (now (out .entry)) to) (keyLines (listed (machine (tab (now (kind .entry)) (now (key .entry)) (now (next .entry)) (now (back .entry))) state))) (page (now (out .exit)) r) ⌝ }
+    ensures { λ r. ⌜ Puts out to (keyLines (listed (machine (before kind key next back) state))) r ⌝ }
 {
     let mut places = [0u32; 4096];
     let answer = listing(kind, key, next, back, state, &mut places);
@@ -93,10 +97,11 @@ fn put_closing(
     out: &mut [u8],
     to: usize,
 ) -> usize
-    ensures { λ r. ⌜ Wrote (page (now (out .entry)) to) (closing plain (machine (tab (now (kind .entry)) (now (key .entry)) (now (next .entry)) (now (back .entry))) state)) (page (now (out .exit)) r) ⌝ }
+    ensures { λ r. ⌜ Puts out to (closing plain (machine (before kind key next back) state)) r ⌝ }
 {
     let on = put_live(kind, key, next, back, state, out, to);
-    put_tallies(out, on, state)
+    let tallies = state.tallies;
+    put_tallies(out, on, tallies, state.taken)
 }
 
 // Runs the calls and steps of a text whose head this is, prints what comes of them, then the closing lines.
@@ -110,7 +115,8 @@ fn run_body(
     start: State,
     out: &mut [u8],
 ) -> usize
-    ensures { λ r. ⌜ Wrote (page (now (out .entry)) 0) (played plain (head .order) (machine (tab (now (kind .entry)) (now (key .entry)) (now (next .entry)) (now (back .entry))) start) 0 (bodyOf (now (text .entry)) head)) (page (now (out .exit)) r) ⌝ }
+    ensures { λ r. ⌜ Puts out 0
+        (played plain (head .order) (machine (before kind key next back) start) 0 (bodyOf (now (text .entry)) head)) r ⌝ }
 {
     let order = head.order;
     let mut state = start;
@@ -123,10 +129,10 @@ fn run_body(
         if ends_body(line) {
             break;
         }
-        let turn = run_line(kind, key, next, back, state, order, line, seen + 4, out, to);
-        let after = turn.state;
+        let ran = run_line(kind, key, next, back, state, order, line, seen + 4, out, to);
+        let after = ran.state;
         state = after;
-        to = turn.to;
+        to = ran.to;
         at = next_of(line);
         seen += 1;
         left -= 1;
@@ -144,9 +150,11 @@ fn run_in(
     back: &mut [u16],
     out: &mut [u8],
 ) -> usize
-    ensures { λ r. ⌜ Wrote (page (now (out .entry)) 0) (played plain (head .order) (setUpOf (tab (now (kind .entry)) (now (key .entry)) (now (next .entry)) (now (back .entry))) (head .parties) .memory) 0 (bodyOf (now (text .entry)) head)) (page (now (out .exit)) r) ⌝ }
+    ensures { λ r. ⌜ Puts out 0
+        (played plain (head .order) (setUpOf (machine (before kind key next back) (restingState 0 0)) (head .parties) .memory)
+            0 (bodyOf (now (text .entry)) head)) r ⌝ }
 {
-    let ready = set_up(kind, key, next, back, head.parties);
+    let ready = set_up(kind, key, next, back, State::resting(0, 0), head.parties);
     let start = ready.state;
     run_body(text, head, kind, key, next, back, start, out)
 }
@@ -154,7 +162,8 @@ fn run_in(
 // Runs the text on a list of its own, of as many rows as its head says.
 fn run_new(text: &[u8], head: Head, out: &mut [u8]) -> usize
     requires { ⌜ head .nodes ≤ 4096 ⌝ }
-    ensures { λ r. ⌜ Wrote (page (now (out .entry)) 0) (played plain (head .order) (fresh (head .nodes) (head .parties)) 0 (bodyOf (now (text .entry)) head)) (page (now (out .exit)) r) ⌝ }
+    ensures { λ r. ⌜ Puts out 0
+        (played plain (head .order) (fresh (head .nodes) (head .parties)) 0 (bodyOf (now (text .entry)) head)) r ⌝ }
 {
     let mut kind = [0u8; 4096];
     let mut key = [0u32; 4096];
@@ -174,7 +183,7 @@ fn run_new(text: &[u8], head: Head, out: &mut [u8]) -> usize
 
 // Leaves the output of a schedule's text at the start of the buffer, as far as it has room, and answers the place behind what was put.
 pub fn replay(text: &[u8], out: &mut [u8]) -> usize
-    ensures { λ r. ⌜ Wrote (page (now (out .entry)) 0) (outputOf (now (text .entry))) (page (now (out .exit)) r) ⌝ }
+    ensures { λ r. ⌜ Puts out 0 (outputOf (now (text .entry))) r ⌝ }
 {
     if 65536 < text.len() {
         return put_bad(out, 0);

@@ -1,13 +1,13 @@
 // The probe: one checked set-up, call, move or listing on any state, bytes in and bytes out.
+use calls::Reply;
+use calls::Said;
 use list::After;
 use list::Listed;
-use calls::Reply;
 use list::Stepped;
 use list::call;
 use list::listing;
 use list::set_up;
 use list::step;
-use calls::Said;
 use list_party::State;
 use page::put_byte;
 use probe_layout::Question;
@@ -22,8 +22,8 @@ use refusal::Verdict;
 ghost use mathlib.Core.Path.{_≡_};
 ghost use mathlib.Core.Bool.{true};
 ghost use Rattle.refusal.specs.Answer.{left, verdictIs};
-ghost use Rattle.list_rows.specs.Table.{tab};
-ghost use Rattle.page.specs.Page.{page, Wrote};
+ghost use Rattle.list_rows.specs.Table.{before, after};
+ghost use Rattle.page.specs.Page.{Puts};
 ghost use Rattle.list_unchecked.specs.Unchecked.{machine};
 ghost use Rattle.list.specs.Answers.{afterIs, stepIs, listedIs};
 ghost use Rattle.calls.specs.Words.{replyIs};
@@ -164,7 +164,7 @@ fn ask(
     places: &mut [u32],
     state: State,
 ) -> Found
-    ensures { λ r. ⌜ seenIs (tab (now (kind .exit)) (now (key .exit)) (now (next .exit)) (now (back .exit))) (now (places .exit)) r ≡ seenBy (asked .what) (machine (tab (now (kind .entry)) (now (key .entry)) (now (next .entry)) (now (back .entry))) state) (asked .party) (asked .code) (asked .key) (now (places .entry)) ⌝ }
+    ensures { λ r. ⌜ seenIs (after kind key next back) (now (places .exit)) r ≡ seenBy (asked .what) (machine (before kind key next back) state) (asked .party) (asked .code) (asked .key) (now (places .entry)) ⌝ }
 {
     let what = asked.what;
     let party = asked.party;
@@ -186,7 +186,7 @@ fn put_seen(
     next: &[u16],
     back: &[u16],
 ) -> usize
-    ensures { λ r. ⌜ Wrote (page (now (out .entry)) 0) (seenBytes (seenIs (tab (now (kind .entry)) (now (key .entry)) (now (next .entry)) (now (back .entry))) (now (places .entry)) found)) (page (now (out .exit)) r) ⌝ }
+    ensures { λ r. ⌜ Puts out 0 (seenBytes (seenIs (before kind key next back) (now (places .entry)) found)) r ⌝ }
 {
     let after = found.state;
     let a = put_byte(out, 0, found.number);
@@ -207,7 +207,7 @@ fn ask_in(
     out: &mut [u8],
 ) -> usize
     requires { ⌜ (roomsFit (now bytes) (tab (now kind) (now key) (now next) (now back)) ≡ true) × (now places ≡ unwritten (placesIn (now bytes))) ⌝ }
-    ensures { λ r. ⌜ Wrote (page (now (out .entry)) 0) (seenBytes (seenOf (now (bytes .entry)))) (page (now (out .exit)) r) ⌝ }
+    ensures { λ r. ⌜ Puts out 0 (seenBytes (seenOf (now (bytes .entry)))) r ⌝ }
 {
     read_table(bytes, kind, key, next, back);
     let asked = question_in(bytes);
@@ -218,7 +218,7 @@ fn ask_in(
 // Makes room for what fits the layout, and asks.
 fn ask_new(bytes: &[u8], out: &mut [u8]) -> usize
     requires { ⌜ fits (now bytes) ≡ true ⌝ }
-    ensures { λ r. ⌜ Wrote (page (now (out .entry)) 0) (seenBytes (seenOf (now (bytes .entry)))) (page (now (out .exit)) r) ⌝ }
+    ensures { λ r. ⌜ Puts out 0 (seenBytes (seenOf (now (bytes .entry)))) r ⌝ }
 {
     let mut kind = [0u8; 4200];
     let mut key = [0u32; 4200];
@@ -244,7 +244,7 @@ fn ask_new(bytes: &[u8], out: &mut [u8]) -> usize
 
 // Leaves all that the one question of the bytes comes to at the start of the buffer, as far as it has room, and answers the place behind it.
 pub fn probe(bytes: &[u8], out: &mut [u8]) -> usize
-    ensures { λ r. ⌜ Wrote (page (now (out .entry)) 0) (probeOf (now (bytes .entry))) (page (now (out .exit)) r) ⌝ }
+    ensures { λ r. ⌜ Puts out 0 (probeOf (now (bytes .entry))) r ⌝ }
 {
     if !fits(bytes) {
         return put_byte(out, 0, 255);

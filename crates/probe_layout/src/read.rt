@@ -8,7 +8,7 @@ ghost use mathlib.Core.Bool.{true};
 ghost use Prim.Native.Nat.{_+_, _*_, _<_};
 ghost use lib.ListN.{length};
 ghost use Rattle.logic.specs.Every.{every};
-ghost use Rattle.list_rows.specs.Table.{tab};
+ghost use Rattle.list_rows.specs.Table.{before, after};
 ghost use Rattle.probe_layout.specs.Bytes.{byteAt, twoAt, fourAt, each};
 ghost use Rattle.probe_layout.specs.Records.{placed, recordAt, recordFits};
 ghost use Rattle.probe_layout.specs.Layout.{tableIn, roomsFit, tableInto, stateIn, fits, endOf};
@@ -163,7 +163,7 @@ fn read_u32s(bytes: &[u8], from: usize, column: &mut [u32])
 // Reads the table into columns of its lengths.
 fn read_columns(bytes: &[u8], kind: &mut [u8], key: &mut [u32], next: &mut [u16], back: &mut [u16])
     requires { ⌜ roomsFit (now bytes) (tab (now kind) (now key) (now next) (now back)) ≡ true ⌝ }
-    ensures { λ r. ⌜ tab (now (kind .exit)) (now (key .exit)) (now (next .exit)) (now (back .exit)) ≡ tableIn (now (bytes .entry)) ⌝ }
+    ensures { λ r. ⌜ after kind key next back ≡ tableIn (now (bytes .entry)) ⌝ }
 {
     let keys_from = 363 + two_at(bytes, 15) as usize;
     let nexts_from = keys_from + 4 * two_at(bytes, 17) as usize;
@@ -182,7 +182,7 @@ pub fn read_table(
     next: &mut [u16],
     back: &mut [u16],
 )
-    ensures { λ r. ⌜ tab (now (kind .exit)) (now (key .exit)) (now (next .exit)) (now (back .exit)) ≡ tableInto (now (bytes .entry)) (tab (now (kind .entry)) (now (key .entry)) (now (next .entry)) (now (back .entry))) ⌝ }
+    ensures { λ r. ⌜ after kind key next back ≡ tableInto (now (bytes .entry)) (before kind key next back) ⌝ }
 {
     let kinds = kind.len() == two_at(bytes, 15) as usize;
     let keys = key.len() == two_at(bytes, 17) as usize;

@@ -8,8 +8,8 @@ use page::put_byte;
 ghost use mathlib.Core.Path.{_≡_};
 ghost use mathlib.Core.Bool.{cond};
 ghost use mathlib.Core.List.{[], _∷_};
-ghost use Rattle.list_rows.specs.Table.{tab};
-ghost use Rattle.page.specs.Page.{page, Wrote};
+ghost use Rattle.list_rows.specs.Table.{before, after};
+ghost use Rattle.page.specs.Page.{Puts};
 ghost use Rattle.list_unchecked.specs.Unchecked.{machine};
 ghost use Rattle.probe_layout.specs.Bytes.{low, lows};
 ghost use Rattle.probe_layout.specs.Records.{spelledBytes, callNumber, placeBytes, recordBytes, recordsBytes};
@@ -17,7 +17,7 @@ ghost use Rattle.probe_layout.specs.Layout.{stateBytes, machineBytes};
 
 // Two bytes of a number, the low byte first.
 pub fn put_two(out: &mut [u8], to: usize, number: usize) -> usize
-    ensures { λ r. ⌜ Wrote (page (now (out .entry)) to) (low 2 number) (page (now (out .exit)) r) ⌝ }
+    ensures { λ r. ⌜ Puts out to (low 2 number) r ⌝ }
 {
     let on = put_byte(out, to, (number % 256) as u8);
     put_byte(out, on, (number / 256 % 256) as u8)
@@ -25,7 +25,7 @@ pub fn put_two(out: &mut [u8], to: usize, number: usize) -> usize
 
 // Four bytes of a number, the low byte first.
 fn put_four(out: &mut [u8], to: usize, number: usize) -> usize
-    ensures { λ r. ⌜ Wrote (page (now (out .entry)) to) (low 4 number) (page (now (out .exit)) r) ⌝ }
+    ensures { λ r. ⌜ Puts out to (low 4 number) r ⌝ }
 {
     let on = put_two(out, to, number);
     put_two(out, on, number / 65536)
@@ -33,14 +33,14 @@ fn put_four(out: &mut [u8], to: usize, number: usize) -> usize
 
 // The bytes of a column of bytes.
 fn put_u8s(out: &mut [u8], to: usize, column: &[u8]) -> usize
-    ensures { λ r. ⌜ Wrote (page (now (out .entry)) to) (lows 1 (now (column .entry))) (page (now (out .exit)) r) ⌝ }
+    ensures { λ r. ⌜ Puts out to (lows 1 (now (column .entry))) r ⌝ }
 {
     put(out, to, column)
 }
 
 // Two bytes for each entry of a column.
 fn put_u16s(out: &mut [u8], to: usize, column: &[u16]) -> usize
-    ensures { λ r. ⌜ Wrote (page (now (out .entry)) to) (lows 2 (now (column .entry))) (page (now (out .exit)) r) ⌝ }
+    ensures { λ r. ⌜ Puts out to (lows 2 (now (column .entry))) r ⌝ }
 {
     let mut i = 0;
     let mut at = to;
@@ -53,7 +53,7 @@ fn put_u16s(out: &mut [u8], to: usize, column: &[u16]) -> usize
 
 // Four bytes for each entry of a column.
 pub fn put_u32s(out: &mut [u8], to: usize, column: &[u32]) -> usize
-    ensures { λ r. ⌜ Wrote (page (now (out .entry)) to) (lows 4 (now (column .entry))) (page (now (out .exit)) r) ⌝ }
+    ensures { λ r. ⌜ Puts out to (lows 4 (now (column .entry))) r ⌝ }
 {
     let mut i = 0;
     let mut at = to;
@@ -112,7 +112,7 @@ fn spell_out(place: Place) -> Spelled
 
 // The six bytes of a place.
 fn put_place(out: &mut [u8], to: usize, place: Place) -> usize
-    ensures { λ r. ⌜ Wrote (page (now (out .entry)) to) (placeBytes place) (page (now (out .exit)) r) ⌝ }
+    ensures { λ r. ⌜ Puts out to (placeBytes place) r ⌝ }
 {
     let six = spell_out(place);
     let a = put_byte(out, to, six.number);
@@ -122,7 +122,7 @@ fn put_place(out: &mut [u8], to: usize, place: Place) -> usize
 
 // 1 for an unpublished own, then a zero.
 fn put_flag(out: &mut [u8], to: usize, unpublished: bool) -> usize
-    ensures { λ r. ⌜ Wrote (page (now (out .entry)) to) (cond unpublished 1 0 ∷ 0 ∷ []) (page (now (out .exit)) r) ⌝ }
+    ensures { λ r. ⌜ Puts out to (cond unpublished 1 0 ∷ 0 ∷ []) r ⌝ }
 {
     let on = put_byte(out, to, unpublished as u8);
     put_byte(out, on, 0)
@@ -130,7 +130,7 @@ fn put_flag(out: &mut [u8], to: usize, unpublished: bool) -> usize
 
 // The twenty bytes of a party record.
 fn put_record(out: &mut [u8], to: usize, q: Party) -> usize
-    ensures { λ r. ⌜ Wrote (page (now (out .entry)) to) (recordBytes q) (page (now (out .exit)) r) ⌝ }
+    ensures { λ r. ⌜ Puts out to (recordBytes q) r ⌝ }
 {
     let place = q.place;
     let a = put_place(out, to, place);
@@ -145,7 +145,7 @@ fn put_record(out: &mut [u8], to: usize, q: Party) -> usize
 
 // The sixteen party records of a state.
 fn put_records(out: &mut [u8], to: usize, state: State) -> usize
-    ensures { λ r. ⌜ Wrote (page (now (out .entry)) to) (recordsBytes (state .parties)) (page (now (out .exit)) r) ⌝ }
+    ensures { λ r. ⌜ Puts out to (recordsBytes (state .parties)) r ⌝ }
 {
     let mut i = 0;
     let mut at = to;
@@ -158,7 +158,7 @@ fn put_records(out: &mut [u8], to: usize, state: State) -> usize
 
 // P, T, moves, won and lost, then the party records.
 fn put_state(out: &mut [u8], to: usize, state: State) -> usize
-    ensures { λ r. ⌜ Wrote (page (now (out .entry)) to) (stateBytes state) (page (now (out .exit)) r) ⌝ }
+    ensures { λ r. ⌜ Puts out to (stateBytes state) r ⌝ }
 {
     let a = put_four(out, to, state.count as usize);
     let b = put_four(out, a, state.taken as usize);
@@ -178,7 +178,7 @@ pub fn put_machine(
     back: &[u16],
     state: State,
 ) -> usize
-    ensures { λ r. ⌜ Wrote (page (now (out .entry)) to) (machineBytes (machine (tab (now (kind .entry)) (now (key .entry)) (now (next .entry)) (now (back .entry))) state)) (page (now (out .exit)) r) ⌝ }
+    ensures { λ r. ⌜ Puts out to (machineBytes (machine (before kind key next back) state)) r ⌝ }
 {
     let a = put_two(out, to, kind.len());
     let b = put_two(out, a, key.len());

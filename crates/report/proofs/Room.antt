@@ -7,19 +7,17 @@ use lib.ListN.{length, length-append}
 use Rattle.refusal.specs.Answer.{Answer, accepted, refused}
 use Rattle.calls.specs.declared.Call.{Call}
 use Rattle.calls.specs.declared.Call.the-variants.{Add, Remove, Contains}
-use Rattle.list_party.specs.declared.Place.{Place}
-use Rattle.list_party.specs.declared.State.{State}
-use Rattle.calls.specs.declared.Said.{Said}
-use Rattle.calls.specs.declared.Said.the-variants.{Nothing, Yes, No}
+use Rattle.calls.specs.declared.Asked.{Asked}
+use Rattle.calls.specs.declared.Tallies.{Tallies}
+use Rattle.calls.specs.Calls.{nameOf}
+use Rattle.calls.specs.Words.{Word, nothing, yes, no}
 use Rattle.logic.specs.Quoted.{bytes}
 use Rattle.page.proofs.Room.{digits-are-few}
-use Rattle.report.specs.declared.Asked.{Asked}
-use Rattle.report.specs.Lines.{askedAt, callName, askedText, answerLine, refusedLine, heard, saidBy, numberLine, keyLines, tallyLines}
+use Rattle.report.specs.Lines.{askedText, answerLine, refusedLine, heard, replyLine, numberLine, keyLines, tallyLines}
 
 -- ---- answers and refusals
 
-name-short : (call : Call) → length (callName call) ≤ 8
-unfolding callName
+name-short : (call : Call) → length (nameOf call) ≤ 8
 name-short Add = omega arith
 name-short Remove = omega arith
 name-short Contains = omega arith
@@ -36,16 +34,16 @@ refused-short : (line number : ℕ) → length (refusedLine line number) ≤ 62
 unfolding refusedLine
 refused-short line number = simp length-append (omega (arith, digits-are-few 20 line, digits-are-few 20 number))
 
-heard-short : (party : ℕ) (place : Place) (said : Said) → length (heard party place said) ≤ 62
+heard-short : (party : ℕ) (a : Asked) (word : Word) → length (heard party a word) ≤ 62
 unfolding heard
-heard-short party place Nothing = omega arith
-heard-short party place Yes = answer-short party (askedAt place) (bytes "yes") (omega arith)
-heard-short party place No = answer-short party (askedAt place) (bytes "no") (omega arith)
+heard-short party a nothing = omega arith
+heard-short party a yes = answer-short party a (bytes "yes") (omega arith)
+heard-short party a no = answer-short party a (bytes "no") (omega arith)
 
-pub said-short : (line party : ℕ) (place : Place) (answer : Answer Said) → length (saidBy line party place answer) ≤ 62
-unfolding saidBy
-said-short line party place (accepted said) = heard-short party place said
-said-short line party place (refused number) = refused-short line number
+pub reply-short : (line party : ℕ) (a : Asked) (answer : Answer Word) → length (replyLine line party a answer) ≤ 62
+unfolding replyLine
+reply-short line party a (accepted word) = heard-short party a word
+reply-short line party a (refused number) = refused-short line number
 
 -- ---- the closing lines
 
@@ -58,8 +56,10 @@ unfolding keyLines
 keys-short [] = omega arith
 keys-short (key ∷ rest) = simp length-append (omega (arith, number-short (bytes "key=") key, keys-short rest))
 
-pub tallies-short : (st : State) → length (tallyLines st) ≤ 105
+pub tallies-short : (t : Tallies) (taken : ℕ) → length (tallyLines t taken) ≤ 105
 unfolding tallyLines
-tallies-short st =
-    simp length-append
-    (omega (arith, number-short (bytes "moves=") (st .tallies .moves), number-short (bytes "won=") (st .tallies .won), number-short (bytes "lost=") (st .tallies .lost), number-short (bytes "taken=") (st .taken)))
+tallies-short t taken =
+    let moves = number-short (bytes "moves=") (t .moves) in
+    let won = number-short (bytes "won=") (t .won) in
+    let lost = number-short (bytes "lost=") (t .lost) in
+    simp length-append (omega (arith, moves, won, lost, number-short (bytes "taken=") taken))

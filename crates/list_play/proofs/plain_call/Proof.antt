@@ -11,7 +11,7 @@ returns c =
     let c9 = c8 .before in
     let c14 = c9 .before .before .before .before .before in
     let c16 = c14 .before .before in
-    calls-on _ _ _ _ (c16 .call-asks .ensures) (c14 .enum-told .given .1) (c9 .call-named .ensures) (c8 .call .ensures)
+    calls-on _ _ _ _ (c16 .call-asks .ensures) (c14 .enum-told .given .1) (c9 .named .ensures) (c8 .call .ensures)
 
 returns-2 : tie.Need-returns-2
 returns-2 c =

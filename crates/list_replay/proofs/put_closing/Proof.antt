@@ -10,8 +10,8 @@ returns : tie.Need-returns
 unfolding closing
 returns c =
     let c2 = c .before .before in
-    let c6 = c2 .before .before .before .before in
-    on (c6 .put-live .ensures) (c2 .put-tallies .ensures)
+    let c7 = c2 .before .before .before .before .before in
+    on (c7 .put-live .ensures) (c2 .put-tallies .ensures)
 
 pub put-closing-spec : {M : Type 1} → statement M
 put-closing-spec = tie.close

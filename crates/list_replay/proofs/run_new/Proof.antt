@@ -5,6 +5,8 @@ use Rattle.page.proofs.Laws.{told}
 use Prim.Native.Nat.{ℕ}
 use mathlib.Core.List.{List}
 use Rattle.list_rows.specs.Table.{tab}
+use Rattle.list_party.specs.State.{restingState}
+use Rattle.list_unchecked.specs.Unchecked.{machine}
 use Rattle.list.specs.Engine.{setUpOf}
 use Rattle.script.specs.Body.{bodyOf}
 use Rattle.list_replay.specs.Output.{plain, played}
@@ -38,7 +40,7 @@ returns c =
     let c6 = c .before .before .before .before .before .before in
     let c15 = c6 .before .before .before .before .before .before .before .before .before in
     told (c6 .run-in .ensures)
-    (ap (λ (l : List ℕ). played plain (c15 .args .head .order) (setUpOf (tab l l l l) (c15 .args .head .parties) .memory) 0
+    (ap (λ (l : List ℕ). played plain (c15 .args .head .order) (setUpOf (machine (tab l l l l) (restingState 0 0)) (c15 .args .head .parties) .memory) 0
     (bodyOf (c15 .args .text .now) (c15 .args .head)))
     (part-zeros 4096 (c15 .args .head .nodes) (c15 .pre)))
 

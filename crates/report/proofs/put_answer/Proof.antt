@@ -1,8 +1,7 @@
 -- The parts of an answer, one after the other.
 -- Assumes nothing.
-use mathlib.Core.Path.{ap}
-use Rattle.page.proofs.Laws.{on, told}
-use Rattle.report.specs.Lines.{askedText, answerLine}
+use Rattle.page.proofs.Laws.{on}
+use Rattle.report.specs.Lines.{answerLine}
 use borrow.Author.Needs.{needs}
 use Rattle.report.proofs.put_answer.Statement.{statement}
 use Rattle.report.proofs.put_answer.Tie as tie
@@ -14,12 +13,10 @@ returns c =
     let c7 = c2 .before .before .before .before .before in
     let c11 = c7 .before .before .before .before in
     let c16 = c11 .before .before .before .before .before in
-    let c17 = c16 .before in
-    let c21 = c17 .before .before .before .before in
-    let c26 = c21 .before .before .before .before .before in
-    let c30 = c26 .before .before .before .before in
-    on (on (on (on (on (on (c30 .put .ensures) (c26 .put-number .ensures)) (c21 .put2 .ensures)) (told (c16 .put-asked .ensures)
-    (ap askedText (c17 .asked-at .ensures))))
+    let c20 = c16 .before .before .before .before in
+    let c25 = c20 .before .before .before .before .before in
+    let c29 = c25 .before .before .before .before in
+    on (on (on (on (on (on (c29 .put .ensures) (c25 .put-number .ensures)) (c20 .put2 .ensures)) (c16 .put-asked .ensures))
     (c11 .put3 .ensures)) (c7 .put4 .ensures)) (c2 .put5 .ensures)
 
 pub put-answer-spec : {M : Type 1} → statement M
@@ -27,5 +24,5 @@ put-answer-spec =
     tie.close
     (tie.spec
     (λ c. search needs) (λ c κs. search needs) (λ c κs. search needs) (λ c. search needs) (λ c κs. search needs)
-    (λ c κs. search needs) (λ c κs. search needs) (λ c. search needs) (λ c κs. search needs) (λ c κs. search needs)
+    (λ c κs. search needs) (λ c. search needs) (λ c κs. search needs) (λ c κs. search needs)
     (λ c. search needs) (λ c κs. search needs) (λ c. search needs) returns)

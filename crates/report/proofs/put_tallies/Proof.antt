@@ -10,10 +10,10 @@ returns : tie.Need-returns
 unfolding tallyLines
 returns c =
     let c2 = c .before .before in
-    let c8 = c2 .before .before .before .before .before .before in
-    let c14 = c8 .before .before .before .before .before .before in
-    let c20 = c14 .before .before .before .before .before .before in
-    on (on (on (c20 .put-numbered .ensures) (c14 .put-numbered2 .ensures)) (c8 .put-numbered3 .ensures)) (c2 .put-numbered4 .ensures)
+    let c7 = c2 .before .before .before .before .before in
+    let c13 = c7 .before .before .before .before .before .before in
+    let c19 = c13 .before .before .before .before .before .before in
+    on (on (on (c19 .put-numbered .ensures) (c13 .put-numbered2 .ensures)) (c7 .put-numbered3 .ensures)) (c2 .put-numbered4 .ensures)
 
 pub put-tallies-spec : {M : Type 1} → statement M
 put-tallies-spec =
@@ -21,4 +21,4 @@ put-tallies-spec =
     (tie.spec
     (λ c. search needs) (λ c. search needs) (λ c κs. search needs) (λ c. search needs) (λ c. search needs)
     (λ c κs. search needs) (λ c. search needs) (λ c. search needs) (λ c κs. search needs) (λ c. search needs)
-    (λ c. search needs) (λ c κs. search needs) (λ c. search needs) returns)
+    (λ c κs. search needs) (λ c. search needs) returns)

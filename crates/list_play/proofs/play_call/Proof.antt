@@ -3,8 +3,8 @@
 use mathlib.Core.Path.{_∙_}
 use Rattle.list_play.proofs.Laws.{key-there, key-refused}
 use borrow.Author.Needs.{needs}
-use Rattle.list_play.proofs.call_turn.Statement.{statement}
-use Rattle.list_play.proofs.call_turn.Tie as tie
+use Rattle.list_play.proofs.play_call.Statement.{statement}
+use Rattle.list_play.proofs.play_call.Tie as tie
 
 returns : tie.Need-returns
 returns c =
@@ -19,8 +19,8 @@ returns-2 c =
     let c3 = c1 .before .before in
     key-refused _ _ (c3 .load-field .ensures) (c1 .field2 .given .1)
 
-pub call-turn-spec : {M : Type 1} → statement M
-call-turn-spec =
+pub play-call-spec : {M : Type 1} → statement M
+play-call-spec =
     tie.close
     (tie.spec
     (λ c κs. search needs) (λ c. search needs) (λ c κs. search needs) (λ c. search needs) (λ c. search needs)
