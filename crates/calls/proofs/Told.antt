@@ -2,6 +2,7 @@
 -- Assumes nothing.
 use mathlib.Core.Path.{_≡_, refl, ap, sym, _∙_}
 use Prim.Native.Nat.{ℕ, zero, suc}
+use native.Mathlib.Omega.{arith}
 use Rattle.refusal.specs.Number.{numberOf}
 use Rattle.refusal.proofs.Laws.{not-both}
 use Rattle.refusal.proofs.Told.{numbers-differ}
@@ -11,12 +12,18 @@ use Rattle.calls.specs.declared.Said.the-variants.{Nothing, Yes, No}
 use Rattle.calls.specs.declared.Reply.the-variants.{Heard, Refused}
 use Rattle.calls.specs.Calls.{callNamed}
 use Rattle.calls.specs.Words.{Word, nothing, yes, no, wordOf}
-use Rattle.calls.specs.Claims.{NamedByItsCode, WordsDiffer, RepliesDiffer}
+use Rattle.calls.specs.Claims.{NamedByItsCode, CodeOfItsCall, WordsDiffer, RepliesDiffer}
 
 pub named-by-its-code : NamedByItsCode
 named-by-its-code Add = refl
 named-by-its-code Remove = refl
 named-by-its-code Contains = refl
+
+pub code-of-its-call : CodeOfItsCall
+code-of-its-call zero small = refl
+code-of-its-call (suc zero) small = refl
+code-of-its-call (suc (suc zero)) small = refl
+code-of-its-call (suc (suc (suc more))) small = absurd (omega arith)
 
 -- every code past 1 names CONTAINS
 pub past-remove : (code : ℕ) → (code ≡ 0 → ⊥) → (code ≡ 1 → ⊥) → Contains ≡ callNamed code

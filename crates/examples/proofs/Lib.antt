@@ -1,2 +1,2 @@
 -- The proof of the table.
-pub mod Worked
+pub mod Examples

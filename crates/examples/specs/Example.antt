@@ -4,10 +4,11 @@ use mathlib.Core.Path.{_≡_}
 use mathlib.Core.List.{List, [], _∷_, _++_}
 use Prim.Native.Nat.{ℕ}
 use lib.ListN.{length, take, replicate}
+use Rattle.columns.specs.Column.{zeros}
 use Rattle.refusal.specs.Answer.{Answer, accepted, Left, left}
 use Rattle.list_party.specs.declared.Place.{Place}
 use Rattle.list_party.specs.declared.Party.{Party}
-use Rattle.calls.specs.declared.Said.{Said}
+use Rattle.calls.specs.Words.{Word}
 use Rattle.list_unchecked.specs.Unchecked.{Machine}
 use Rattle.list.specs.Engine.{listOf}
 use Rattle.list.specs.Run.{Event, calls, moves, run, replies, going, fresh}
@@ -16,17 +17,20 @@ use Rattle.list_replay.specs.Output.{outputOf}
 
 -- ---- what an example says
 
--- One stage of a run: its events, the answer to each, and how things stand behind the last of them: where each party is in
--- its work, what a listing leaves and answers, T, and the tallies.
-pub record Stage : Type 0 where
-  pub events : List Event
-  pub answers : List (Answer Said)
+-- how things stand: where each party is in its work, what a listing leaves and answers, T, and the tallies
+pub record Standing : Type 0 where
   pub places : List Place
   pub listing : Left (List ℕ) ℕ
   pub taken : ℕ
-  pub moved : ℕ
+  pub moves : ℕ
   pub won : ℕ
   pub lost : ℕ
+
+-- one stage of a run: its events, the answer to each, and how things stand behind the last of them
+pub record Stage : Type 0 where
+  pub events : List Event
+  pub answers : List (Answer Word)
+  pub after : Standing
 
 pub data Example : Type 0 where
   -- the bytes of a field, and what a load answers in either order
@@ -42,20 +46,24 @@ abbrev pub placesOf : List Party → List Place
 placesOf [] = []
 placesOf (first ∷ rest) = first .place ∷ placesOf rest
 
+-- how things stand on a list, with so many places for a listing
+abbrev pub standingOf : Machine → (room : ℕ) → Standing
+standingOf m room = record {
+  places = placesOf (take (m .state .count) (m .state .parties));
+  listing = listOf m (zeros room);
+  taken = m .state .taken;
+  moves = m .state .tallies .moves;
+  won = m .state .tallies .won;
+  lost = m .state .tallies .lost;
+}
+
 -- the events of a stage on a list; a listing gets as many places as the stage has keys
 abbrev pub stageOf : Machine → Stage → Stage
-stageOf m stage =
-    let after = run m (stage .events) in
-    record {
-      events = stage .events;
-      answers = replies m (stage .events);
-      places = placesOf (take (after .state .count) (after .state .parties));
-      listing = listOf after (replicate (length (stage .listing .memory)) 0);
-      taken = after .state .taken;
-      moved = after .state .tallies .moves;
-      won = after .state .tallies .won;
-      lost = after .state .tallies .lost;
-    }
+stageOf m stage = record {
+  events = stage .events;
+  answers = replies m (stage .events);
+  after = standingOf (run m (stage .events)) (length (stage .after .listing .memory));
+}
 
 -- each stage starts where the one before has ended
 abbrev pub stagesOf : Machine → List Stage → List Stage
@@ -86,9 +94,9 @@ abbrev pub alone : (party code key number : ℕ) → List Event
 alone party code key number = calls party code key ∷ replicate number (moves party)
 
 -- nothing is said so many times
-abbrev pub silent : (number : ℕ) → List (Answer Said)
+abbrev pub silent : (number : ℕ) → List (Answer Word)
 silent number = replicate number going
 
 -- the answers to a call and then its moves: nothing is said, by the call nor by a move, until the move of this number says it
-abbrev pub by-move : (number : ℕ) → Answer Said → List (Answer Said)
-by-move number answer = silent number ++ (answer ∷ [])
+abbrev pub by-move : (number : ℕ) → Word → List (Answer Word)
+by-move number word = silent number ++ (accepted word ∷ [])

@@ -1,1 +1,1 @@
-// The examples of document 01 in one table, computed by the checker: no code; the table is in specs/, its proof in proofs/.
+// The examples of document 01 in one table, computed by the checker: no code.

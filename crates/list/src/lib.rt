@@ -75,10 +75,10 @@ pub fn set_up(
     key: &mut [u32],
     next: &mut [u16],
     back: &mut [u16],
-    state: State,
+    came: State,
     parties: u32,
 ) -> After
-    ensures { λ r. ⌜ afterIs (after kind key next back) r ≡ setUpOf (machine (before kind key next back) state) parties ⌝ }
+    ensures { λ r. ⌜ afterIs (after kind key next back) r ≡ setUpOf (machine (before kind key next back) came) parties ⌝ }
 {
     let verdict = set_up_verdict(kind.len(), key.len(), next.len(), back.len(), parties);
     match verdict {
@@ -89,7 +89,10 @@ pub fn set_up(
                 verdict,
             }
         }
-        Verdict::Refused(_) => After { state, verdict },
+        Verdict::Refused(_) => After {
+            state: came,
+            verdict,
+        },
     }
 }
 

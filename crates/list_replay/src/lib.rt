@@ -152,7 +152,7 @@ fn run_in(
 ) -> usize
     ensures { λ r. ⌜ Puts out 0
         (played plain (head .order) (setUpOf (machine (before kind key next back) (restingState 0 0)) (head .parties) .memory)
-            0 (bodyOf (now (text .entry)) head)) r ⌝ }
+        0 (bodyOf (now (text .entry)) head)) r ⌝ }
 {
     let ready = set_up(kind, key, next, back, State::resting(0, 0), head.parties);
     let start = ready.state;

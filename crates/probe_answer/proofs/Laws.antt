@@ -15,36 +15,24 @@ use Rattle.refusal.specs.Answer.{accepted, refused, Left, left, Tests, verdictI
 use Rattle.list_rows.specs.Table.{Table, tab}
 use Rattle.list_party.specs.declared.State.{State}
 use Rattle.list_unchecked.specs.Unchecked.{Machine, machine}
-use Rattle.calls.specs.declared.Said.{Said}
 use Rattle.list.specs.declared.After.{After}
 use Rattle.list.specs.declared.Stepped.{Stepped}
 use Rattle.list.specs.declared.Listed.{Listed}
 use Rattle.list.specs.Answers.{afterIs, stepIs, listedIs}
-use Rattle.calls.specs.Words.{replyIs}
+use Rattle.calls.specs.Words.{Word, replyIs}
 use Rattle.list.specs.Engine.{setUpOf, callOf, moveOf, listOf}
-use Rattle.list.proofs.Promises.{refused-set-up-leaves}
 use Rattle.probe_layout.specs.declared.Question.{Question}
 use Rattle.probe_layout.specs.Layout.{placesIn, questionIn, roomsFit, tableInto, stateIn, fits}
 use Rattle.probe_layout.proofs.Fitting.{fit-of, rooms-fit, table-read}
-use Rattle.probe_answer.specs.Probe.{Seen, unwritten, refusalIn, saidIn, listedIn, handedBack, setUpShown, callShown, moveShown, listShown, seenBy, seenOf, seenBytes, probeOf}
+use Rattle.probe_answer.specs.Probe.{Seen, unwritten, refusalIn, saidIn, listedIn, doneShown, moveShown, listShown, seenBy, seenOf, seenBytes, probeOf}
 
 -- ---- what an outcome comes to
 
 module _ (t : Table) (places : List ℕ) where
-  pub set-up-made : (came : State) (done : After) → done .verdict ≡ Accepted →
-      record { number = 0; answer = 0; listed = 0; places = places; after = machine t (done .state) } ≡ setUpShown (machine t came) places (afterIs t done)
-  unfolding setUpShown
-  set-up-made came done accepts = rw accepts
-
-  pub set-up-kept : (came : State) (done : After) {why : Refusal} {number : ℕ} → done .verdict ≡ Refused why → number ≡ numberOf why →
-      record { number = number; answer = 0; listed = 0; places = places; after = machine t came } ≡ setUpShown (machine t came) places (afterIs t done)
-  unfolding setUpShown
-  set-up-kept came done refuses numbers = rw (numbers, refuses)
-
-  pub call-so : (done : After) {number : ℕ} → number ≡ refusalIn (verdictIs (done .verdict)) →
-      record { number = number; answer = 0; listed = 0; places = places; after = machine t (done .state) } ≡ callShown places (afterIs t done)
-  unfolding callShown
-  call-so done numbers = rw numbers
+  pub done-so : (done : After) {number : ℕ} → number ≡ refusalIn (verdictIs (done .verdict)) →
+      record { number = number; answer = 0; listed = 0; places = places; after = machine t (done .state) } ≡ doneShown places (afterIs t done)
+  unfolding doneShown
+  done-so done numbers = rw numbers
 
   pub move-so : (done : Stepped) {number answer : ℕ} → number ≡ refusalIn (replyIs (done .reply)) → answer ≡ saidIn (replyIs (done .reply)) →
       record { number = number; answer = answer; listed = 0; places = places; after = machine t (done .state) } ≡ moveShown places (stepIs t done)
@@ -58,23 +46,6 @@ module _ (t : Table) (places : List ℕ) where
 
 -- ---- which question is asked
 
--- a refused set-up has not touched the columns, so that the state that came is handed back with them
-handed-same : (a : Tests) (came came′ made : Machine) → ((number : ℕ) → a ≡ refused number → came ≡ came′) → handedBack came made a ≡ handedBack came′ made a
-handed-same (accepted done) came came′ made same = refl
-handed-same (refused number) came came′ made same = same number refl
-
-set-up-so : (m : Machine) (parties : ℕ) (places : List ℕ) (t : Table) (done : After) → afterIs t done ≡ setUpOf (m .table) parties →
-    setUpShown (machine t (m .state)) places (afterIs t done) ≡ setUpShown m places (setUpOf (m .table) parties)
-unfolding setUpShown
-set-up-so m parties places t done is =
-    let columns : (number : ℕ) → verdictIs (done .verdict) ≡ refused number → machine t (m .state) ≡ m =
-    λ number stops. ap (λ (t′ : Table). machine t′ (m .state))
-    (ap (λ (l : Left Machine (Unit {0})). l .memory .table) is
-    ∙ ap (λ (x : Machine). x .table) (refused-set-up-leaves (m .table) parties number (sym (ap (λ (l : Left Machine (Unit {0})). l .answer) is) ∙ stops))) in
-    ap (λ (after : Machine). record { number = refusalIn (verdictIs (done .verdict)); answer = 0; listed = 0; places = places; after = after })
-    (handed-same (verdictIs (done .verdict)) (machine t (m .state)) m (machine t (done .state)) columns)
-    ∙ ap (λ (l : Left Machine (Unit {0})). record { number = refusalIn (l .answer); answer = 0; listed = 0; places = places; after = handedBack m (l .memory) (l .answer) }) is
-
 past-move : (what : ℕ) (m : Machine) (party code key : ℕ) (places : List ℕ) → 3 ≤ what → listShown m (listOf m places) ≡ seenBy what m party code key places
 past-move zero m party code key places past = absurd (omega arith)
 past-move (suc zero) m party code key places past = absurd (omega arith)
@@ -86,15 +57,15 @@ module _ (asked : Question) (m : Machine) (places : List ℕ) where
   abbrev shown : Seen
   shown = seenBy (asked .what) m (asked .party) (asked .code) (asked .key) places
 
-  pub asks-set-up : {seen : Seen} (t : Table) (done : After) → asked .what ≡ 0 → afterIs t done ≡ setUpOf (m .table) (asked .party) →
-      seen ≡ setUpShown (machine t (m .state)) places (afterIs t done) → seen ≡ shown
-  asks-set-up t done is leaves e = rw is (e ∙ set-up-so m (asked .party) places t done leaves)
+  pub asks-set-up : {seen : Seen} {left : Left Machine (Unit {0})} → asked .what ≡ 0 → left ≡ setUpOf m (asked .party) →
+      seen ≡ doneShown places left → seen ≡ shown
+  asks-set-up is leaves e = rw is (e ∙ ap (doneShown places) leaves)
 
   pub asks-call : {seen : Seen} {left : Left Machine (Unit {0})} → asked .what ≡ 1 → left ≡ callOf m (asked .party) (asked .code) (asked .key) →
-      seen ≡ callShown places left → seen ≡ shown
-  asks-call is leaves e = rw is (e ∙ ap (callShown places) leaves)
+      seen ≡ doneShown places left → seen ≡ shown
+  asks-call is leaves e = rw is (e ∙ ap (doneShown places) leaves)
 
-  pub asks-move : {seen : Seen} {left : Left Machine Said} → asked .what ≡ 2 → left ≡ moveOf m (asked .party) → seen ≡ moveShown places left → seen ≡ shown
+  pub asks-move : {seen : Seen} {left : Left Machine Word} → asked .what ≡ 2 → left ≡ moveOf m (asked .party) → seen ≡ moveShown places left → seen ≡ shown
   asks-move is leaves e = rw is (e ∙ ap (moveShown places) leaves)
 
   pub asks-listing : {seen : Seen} {left : Left (List ℕ) ℕ} → 3 ≤ asked .what → left ≡ listOf m places → seen ≡ listShown m left → seen ≡ shown

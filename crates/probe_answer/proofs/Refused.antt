@@ -4,14 +4,14 @@ use mathlib.Core.Path.{_≡_, ap, sym, _∙_}
 use mathlib.Core.List.{List, _∷_, _++_}
 use Prim.Native.Nat.{ℕ, zero, suc}
 use native.Mathlib.Omega.{arith}
-use Rattle.refusal.specs.Answer.{Answer, accepted, refused, Tests}
+use Rattle.refusal.specs.Answer.{Answer, accepted, refused}
 use Rattle.field.specs.Layout.{bytesIn}
 use Rattle.list_unchecked.specs.Unchecked.{Machine}
 use Rattle.list.specs.Engine.{setUpOf, callOf, moveOf, listOf}
-use Rattle.list.proofs.Promises.{refused-call-leaves, refused-move-leaves, refused-listing-leaves}
+use Rattle.list.proofs.Promises.{refused-set-up-leaves, refused-call-leaves, refused-move-leaves, refused-listing-leaves}
 use Rattle.probe_layout.specs.Bytes.{lows}
 use Rattle.probe_layout.specs.Layout.{whatIn, partyIn, codeIn, keyIn, placesIn, machineIn}
-use Rattle.probe_answer.specs.Probe.{Seen, unwritten, refusalIn, handedBack, setUpShown, callShown, moveShown, listShown, seenBy, seenOf, seenBytes}
+use Rattle.probe_answer.specs.Probe.{Seen, unwritten, refusalIn, doneShown, moveShown, listShown, seenBy, seenOf, seenBytes}
 use Rattle.probe_answer.specs.Claims.{RefusedAsFound}
 use Rattle.probe_answer.proofs.Laws.{probe-fits}
 use Rattle.probe_layout.proofs.Written.{read-is-written}
@@ -26,14 +26,15 @@ abbrev untouched : Machine → List ℕ → ℕ → Seen
 untouched m places number = record { number = suc number; answer = 0; listed = 0; places = places; after = m }
 
 module _ (m : Machine) (places : List ℕ) (number : ℕ) where
-  set-up-untouched : (parties : ℕ) → setUpShown m places (setUpOf (m .table) parties) .number ≡ suc number → setUpShown m places (setUpOf (m .table) parties) ≡ untouched m places number
-  unfolding setUpShown
+  set-up-untouched : (parties : ℕ) → doneShown places (setUpOf m parties) .number ≡ suc number →
+      doneShown places (setUpOf m parties) ≡ untouched m places number
+  unfolding doneShown
   set-up-untouched parties is =
-      ap (λ (a : Tests). record { number = refusalIn a; answer = 0; listed = 0; places = places; after = handedBack m (setUpOf (m .table) parties .memory) a })
-      (refused-by (setUpOf (m .table) parties .answer) number is)
+      let stops = refused-by (setUpOf m parties .answer) number is in
+      rw (stops, refused-set-up-leaves m parties (suc number) stops)
 
-  call-untouched : (party code key : ℕ) → callShown places (callOf m party code key) .number ≡ suc number → callShown places (callOf m party code key) ≡ untouched m places number
-  unfolding callShown
+  call-untouched : (party code key : ℕ) → doneShown places (callOf m party code key) .number ≡ suc number → doneShown places (callOf m party code key) ≡ untouched m places number
+  unfolding doneShown
   call-untouched party code key is =
       let stops = refused-by (callOf m party code key .answer) number is in
       rw (stops, refused-call-leaves m party code key (suc number) stops)

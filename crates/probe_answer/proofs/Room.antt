@@ -28,7 +28,7 @@ use Rattle.list.proofs.Laws.{past-form, table-fits, past-set-up}
 use Rattle.probe_layout.specs.Bytes.{low, byteAt, twoAt, fourAt}
 use Rattle.probe_layout.specs.Records.{recordAt}
 use Rattle.probe_layout.specs.Layout.{whatIn, partyIn, codeIn, keyIn, placesIn, kindsIn, keysIn, nextsIn, backsIn, keysFrom, nextsFrom, backsFrom, tableIn, stateIn, machineIn, fits}
-use Rattle.probe_answer.specs.Probe.{Seen, unwritten, handedBack, setUpShown, callShown, moveShown, listShown, seenBy, seenOf, seenBytes, probeOf}
+use Rattle.probe_answer.specs.Probe.{Seen, unwritten, doneShown, moveShown, listShown, seenBy, seenOf, seenBytes, probeOf}
 use Rattle.probe_answer.specs.Claims.{OutputFits}
 use Rattle.probe_layout.proofs.Fitting.{fit-of}
 use Rattle.probe_answer.proofs.Laws.{probe-fits, probe-none}
@@ -68,12 +68,6 @@ written-alike (Item row key) t st st′ parties = record {
   parties = parties;
 }
 
-tallied-parties : (access : Access) (st : State) → tallied access st .parties ≡ st .parties
-tallied-parties None st = refl
-tallied-parties Read st = refl
-tallied-parties Won st = refl
-tallied-parties Lost st = refl
-
 call-alike : (m : Machine) (party code key : ℕ) → Alike m (uncheckedCall m party (callNamed code) key)
 unfolding uncheckedCall
 call-alike m party code key =
@@ -83,9 +77,8 @@ call-alike m party code key =
 move-alike : (m : Machine) (party : ℕ) → Alike m (uncheckedMove m party .after)
 unfolding uncheckedMove
 move-alike m party =
-    let made = placeOf (partyOf m party .place) (m .table) (partyOf m party) in
-    written-alike (made .write) (m .table) (m .state) _
-    (ap length (tallied-parties (made .access) _) ∙ length-set (m .state .parties) party (made .party))
+    let moved = placeOf (partyOf m party .place) (m .table) (partyOf m party) in
+    written-alike (moved .write) (m .table) (m .state) _ (length-set (m .state .parties) party (moved .party))
 
 -- what tests leave is what was found or what is changed
 left-alike : {A : Type 0} (m : Machine) (tests : Tests) (changed : Left Machine A) → (tests ≡ passed → Alike m (changed .memory)) →
@@ -112,21 +105,17 @@ record Sized (m : Machine) (places : List ℕ) (seen : Seen) : Type 0 where
   after : Alike m (seen .after)
   room : length (seen .places) ≡ length places
 
-handed-alike : (m : Machine) (tests : Tests) (blank new : Machine) → (tests ≡ passed → Alike m new) →
-    Alike m (handedBack m (leaving tests blank (left new passed) .memory) (leaving tests blank (left new passed) .answer))
-handed-alike m (accepted done) blank new alike = alike refl
-handed-alike m (refused number) blank new alike = same m
-
 module _ (m : Machine) (places : List ℕ) (sixteen : length (m .state .parties) ≡ 16) where
-  set-up-sized : (parties : ℕ) → Sized m places (setUpShown m places (setUpOf (m .table) parties))
-  unfolding setUpShown setUpOf
+  set-up-sized : (parties : ℕ) → Sized m places (doneShown places (setUpOf m parties))
+  unfolding doneShown setUpOf
   set-up-sized parties = record {
-    after = handed-alike m (setUpTests (m .table) parties) (machine (m .table) (restingState 0 0)) (machine (freshTable (rowsIn (m .table))) (restingState parties 4)) (fresh-alike m parties sixteen);
+    after = left-alike m (setUpTests (m .table) parties) (left (machine (freshTable (rowsIn (m .table))) (restingState parties 4)) passed)
+        (fresh-alike m parties sixteen);
     room = refl;
   }
 
-  call-sized : (party code key : ℕ) → Sized m places (callShown places (callOf m party code key))
-  unfolding callShown callOf
+  call-sized : (party code key : ℕ) → Sized m places (doneShown places (callOf m party code key))
+  unfolding doneShown callOf
   call-sized party code key = record {
     after = left-alike m (callTests m party code) (left (uncheckedCall m party (callNamed code) key) passed) (λ passes. call-alike m party code key);
     room = refl;

@@ -5,9 +5,8 @@ use mathlib.Core.List.{List, [], _∷_, _++_}
 use mathlib.Core.Bool.{cond}
 use Prim.Native.Nat.{ℕ, zero, suc}
 use lib.ListN.{replicate}
-use Rattle.refusal.specs.Answer.{Answer, accepted, refused, Left, Tests}
-use Rattle.calls.specs.declared.Said.{Said}
-use Rattle.calls.specs.declared.Said.the-variants.{Nothing, Yes, No}
+use Rattle.refusal.specs.Answer.{Answer, accepted, refused, Left}
+use Rattle.calls.specs.Words.{Word, nothing, yes, no}
 use Rattle.list_rows.specs.Table.{Table}
 use Rattle.list_unchecked.specs.Unchecked.{Machine, machine}
 use Rattle.list.specs.Engine.{setUpOf, callOf, moveOf, listOf}
@@ -27,11 +26,10 @@ pub record Seen : Type 0 where
 abbrev pub unwritten : ℕ → List ℕ
 unwritten places = replicate places 4008636142
 
--- 0 none, 1 yes, 2 no
-abbrev pub saidNumber : Said → ℕ
-saidNumber Nothing = 0
-saidNumber Yes = 1
-saidNumber No = 2
+abbrev pub wordNumber : Word → ℕ
+wordNumber nothing = 0
+wordNumber yes = 1
+wordNumber no = 2
 
 -- the number of a refusal; of an accepted answer, 0
 abbrev pub refusalIn : {A : Type 0} → Answer A → ℕ
@@ -39,8 +37,8 @@ refusalIn (accepted value) = 0
 refusalIn (refused number) = number
 
 -- what is said by a move; a refusal says nothing
-abbrev pub saidIn : Answer Said → ℕ
-saidIn (accepted said) = saidNumber said
+abbrev pub saidIn : Answer Word → ℕ
+saidIn (accepted word) = wordNumber word
 saidIn (refused number) = 0
 
 -- how many keys a listing has listed; a refused one, none
@@ -48,33 +46,41 @@ abbrev pub listedIn : Answer ℕ → ℕ
 listedIn (accepted count) = count
 listedIn (refused number) = 0
 
--- of a set-up the state that it makes, and if it is refused the one that came
-abbrev pub handedBack : (came made : Machine) → Tests → Machine
-handedBack came made (accepted done) = made
-handedBack came made (refused number) = came
-
 -- ---- what is seen of each outcome
 
-unfoldable pub setUpShown : (came : Machine) (places : List ℕ) → Left Machine (Unit {0}) → Seen
-setUpShown came places done =
-    record { number = refusalIn (done .answer); answer = 0; listed = 0; places = places; after = handedBack came (done .memory) (done .answer) }
+-- of a set-up or a call
+unfoldable pub doneShown : (places : List ℕ) → Left Machine (Unit {0}) → Seen
+doneShown places done = record {
+  number = refusalIn (done .answer);
+  answer = 0;
+  listed = 0;
+  places = places;
+  after = done .memory;
+}
 
-unfoldable pub callShown : (places : List ℕ) → Left Machine (Unit {0}) → Seen
-callShown places done = record { number = refusalIn (done .answer); answer = 0; listed = 0; places = places; after = done .memory }
-
-unfoldable pub moveShown : (places : List ℕ) → Left Machine Said → Seen
-moveShown places done =
-    record { number = refusalIn (done .answer); answer = saidIn (done .answer); listed = 0; places = places; after = done .memory }
+unfoldable pub moveShown : (places : List ℕ) → Left Machine Word → Seen
+moveShown places done = record {
+  number = refusalIn (done .answer);
+  answer = saidIn (done .answer);
+  listed = 0;
+  places = places;
+  after = done .memory;
+}
 
 unfoldable pub listShown : Machine → Left (List ℕ) ℕ → Seen
-listShown m done =
-    record { number = refusalIn (done .answer); answer = 0; listed = listedIn (done .answer); places = done .memory; after = m }
+listShown m done = record {
+  number = refusalIn (done .answer);
+  answer = 0;
+  listed = listedIn (done .answer);
+  places = done .memory;
+  after = m;
+}
 
 -- ---- the four questions
 
 abbrev pub seenBy : (what : ℕ) → Machine → (party code key : ℕ) → List ℕ → Seen
-seenBy zero m party code key places = setUpShown m places (setUpOf (m .table) party)
-seenBy (suc zero) m party code key places = callShown places (callOf m party code key)
+seenBy zero m party code key places = doneShown places (setUpOf m party)
+seenBy (suc zero) m party code key places = doneShown places (callOf m party code key)
 seenBy (suc (suc zero)) m party code key places = moveShown places (moveOf m party)
 seenBy (suc (suc (suc more))) m party code key places = listShown m (listOf m places)
 
@@ -84,8 +90,13 @@ seenOf bytes =
 
 -- what the code has found, with the table and the places that it leaves
 abbrev pub seenIs : Table → List ℕ → Found → Seen
-seenIs t places found =
-    record { number = found .number; answer = found .answer; listed = found .listed; places = places; after = machine t (found .state) }
+seenIs t places found = record {
+  number = found .number;
+  answer = found .answer;
+  listed = found .listed;
+  places = places;
+  after = machine t (found .state);
+}
 
 -- it comes to this, whatever table and places are left
 abbrev pub FoundSo : Found → (Table → List ℕ → Seen) → Type 0
@@ -94,7 +105,8 @@ FoundSo found seen = (t : Table) (places : List ℕ) → seenIs t places found �
 -- ---- bytes in, bytes out
 
 unfoldable pub seenBytes : Seen → List ℕ
-seenBytes seen = seen .number ∷ seen .answer ∷ low 2 (seen .listed) ++ lows 4 (seen .places) ++ machineBytes (seen .after)
+seenBytes seen =
+    seen .number ∷ seen .answer ∷ low 2 (seen .listed) ++ lows 4 (seen .places) ++ machineBytes (seen .after)
 
 -- what does not fit the layout gives the one byte 255
 unfoldable pub probeOf : List ℕ → List ℕ

@@ -22,13 +22,27 @@ use refusal::Verdict;
 ghost use mathlib.Core.Path.{_≡_};
 ghost use mathlib.Core.Bool.{true};
 ghost use Rattle.refusal.specs.Answer.{left, verdictIs};
-ghost use Rattle.list_rows.specs.Table.{before, after};
+ghost use Rattle.list_rows.specs.Table.{tab, before, after};
 ghost use Rattle.page.specs.Page.{Puts};
 ghost use Rattle.list_unchecked.specs.Unchecked.{machine};
 ghost use Rattle.list.specs.Answers.{afterIs, stepIs, listedIs};
 ghost use Rattle.calls.specs.Words.{replyIs};
 ghost use Rattle.probe_layout.specs.Layout.{placesIn, roomsFit, fits};
-ghost use Rattle.probe_answer.specs.Probe.{unwritten, saidIn, refusalIn, listedIn, setUpShown, callShown, moveShown, listShown, seenBy, seenIs, FoundSo, seenOf, seenBytes, probeOf};
+ghost use Rattle.probe_answer.specs.Probe.{
+  unwritten,
+  saidIn,
+  refusalIn,
+  listedIn,
+  doneShown,
+  moveShown,
+  listShown,
+  seenBy,
+  seenIs,
+  FoundSo,
+  seenOf,
+  seenBytes,
+  probeOf,
+};
 
 // What a question has found: a refusal's number or 0, the answer, how many keys were listed, and the state.
 struct Found {
@@ -92,31 +106,9 @@ fn listed_in(listed: Listed) -> usize
     }
 }
 
-// What a set-up comes to; refused, it hands back the state that came.
-fn set_up_found(came: State, done: After) -> Found
-    ensures { λ r. ⌜ FoundSo r (λ t places. setUpShown (machine t came) places (afterIs t done)) ⌝ }
-{
-    let verdict = done.verdict;
-    let made = done.state;
-    match verdict {
-        Verdict::Accepted => Found {
-            state: made,
-            number: 0,
-            answer: 0,
-            listed: 0,
-        },
-        Verdict::Refused(why) => Found {
-            state: came,
-            number: why.number(),
-            answer: 0,
-            listed: 0,
-        },
-    }
-}
-
-// What a call comes to.
-fn call_found(done: After) -> Found
-    ensures { λ r. ⌜ FoundSo r (λ t places. callShown places (afterIs t done)) ⌝ }
+// What a set-up or a call comes to.
+fn done_found(done: After) -> Found
+    ensures { λ r. ⌜ FoundSo r (λ t places. doneShown places (afterIs t done)) ⌝ }
 {
     let verdict = done.verdict;
     let after = done.state;
@@ -164,13 +156,15 @@ fn ask(
     places: &mut [u32],
     state: State,
 ) -> Found
-    ensures { λ r. ⌜ seenIs (after kind key next back) (now (places .exit)) r ≡ seenBy (asked .what) (machine (before kind key next back) state) (asked .party) (asked .code) (asked .key) (now (places .entry)) ⌝ }
+    ensures { λ r. ⌜ seenIs (after kind key next back) (now (places .exit)) r
+        ≡ seenBy (asked .what) (machine (before kind key next back) state)
+        (asked .party) (asked .code) (asked .key) (now (places .entry)) ⌝ }
 {
     let what = asked.what;
     let party = asked.party;
     match what {
-        0 => set_up_found(state, set_up(kind, key, next, back, party)),
-        1 => call_found(call(kind, key, next, back, state, party, asked.code, asked.key)),
+        0 => done_found(set_up(kind, key, next, back, state, party)),
+        1 => done_found(call(kind, key, next, back, state, party, asked.code, asked.key)),
         2 => move_found(step(kind, key, next, back, state, party)),
         _ => listing_found(state, listing(kind, key, next, back, state, places)),
     }
@@ -206,7 +200,8 @@ fn ask_in(
     places: &mut [u32],
     out: &mut [u8],
 ) -> usize
-    requires { ⌜ (roomsFit (now bytes) (tab (now kind) (now key) (now next) (now back)) ≡ true) × (now places ≡ unwritten (placesIn (now bytes))) ⌝ }
+    requires { ⌜ (roomsFit (now bytes) (tab (now kind) (now key) (now next) (now back)) ≡ true)
+        × (now places ≡ unwritten (placesIn (now bytes))) ⌝ }
     ensures { λ r. ⌜ Puts out 0 (seenBytes (seenOf (now (bytes .entry)))) r ⌝ }
 {
     read_table(bytes, kind, key, next, back);
@@ -242,7 +237,8 @@ fn ask_new(bytes: &[u8], out: &mut [u8]) -> usize
     )
 }
 
-// Leaves all that the one question of the bytes comes to at the start of the buffer, as far as it has room, and answers the place behind it.
+// Leaves all that the one question of the bytes comes to at the start of the buffer, as far as it has room, and answers the
+// place behind it.
 pub fn probe(bytes: &[u8], out: &mut [u8]) -> usize
     ensures { λ r. ⌜ Puts out 0 (probeOf (now (bytes .entry))) r ⌝ }
 {

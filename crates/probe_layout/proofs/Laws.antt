@@ -18,7 +18,7 @@ use Rattle.list_party.specs.declared.Place.{Place}
 use Rattle.list_party.specs.declared.Place.the-variants.{Look}
 use Rattle.calls.specs.Calls.{callNamed}
 use Rattle.probe_layout.specs.Bytes.{byteAt, twoAt, fourAt, each, low, oneByOne, lows}
-use Rattle.probe_layout.specs.Records.{numbered, placed, recordAt}
+use Rattle.probe_layout.specs.Records.{numbered, placeNumbered, recordAt}
 use Rattle.probe_layout.specs.Layout.{kindsIn, keysIn, nextsIn, tableIn}
 use Rattle.probe_layout.proofs.Fitting.{Rooms}
 
@@ -107,11 +107,11 @@ bytes-as-are (byte ∷ rest) all =
 pub passed : (k number : ℕ) → k ≤ number → (number ≡ k → ⊥) → k + 1 ≤ number
 passed k number past differs = omega arith
 
-pub past-back : (number : ℕ) (call : Call) (key : ℕ) → 8 ≤ number → Look call key ≡ placed number call key
+pub past-back : (number : ℕ) (call : Call) (key : ℕ) → 8 ≤ number → Look call key ≡ placeNumbered number call key
 past-back number call key past = sym (List·getD-eq-default (numbered call key) (Look call key) past)
 
 pub record-told : (bytes : List ℕ) (at : ℕ) {code number key p n c s r own flag : ℕ} {call : Call} {place : Place} →
-    code ≡ byteAt bytes (at + 1) → call ≡ callNamed code → number ≡ byteAt bytes at → key ≡ fourAt bytes (at + 2) → place ≡ placed number call key →
+    code ≡ byteAt bytes (at + 1) → call ≡ callNamed code → number ≡ byteAt bytes at → key ≡ fourAt bytes (at + 2) → place ≡ placeNumbered number call key →
     p ≡ twoAt bytes (at + 6) → n ≡ twoAt bytes (at + 8) → c ≡ twoAt bytes (at + 10) → s ≡ twoAt bytes (at + 12) → r ≡ twoAt bytes (at + 14) →
     own ≡ twoAt bytes (at + 16) → flag ≡ byteAt bytes (at + 18) →
     record { place = place; p = p; n = n; c = c; s = s; r = r; own = own; unpublished = eqb flag 1 } ≡ recordAt bytes at
@@ -120,9 +120,9 @@ record-told bytes at {code} {number} {key} codes calls numbers keys places ps ns
     let call-so = calls ∙ ap callNamed codes in
     let place-so =
     places
-    ∙ ap (λ (x : Call). placed number x key) call-so
-    ∙ ap (λ (x : ℕ). placed x (callNamed (byteAt bytes (at + 1))) key) numbers
-    ∙ ap (placed (byteAt bytes at) (callNamed (byteAt bytes (at + 1)))) keys in
+    ∙ ap (λ (x : Call). placeNumbered number x key) call-so
+    ∙ ap (λ (x : ℕ). placeNumbered x (callNamed (byteAt bytes (at + 1))) key) numbers
+    ∙ ap (placeNumbered (byteAt bytes at) (callNamed (byteAt bytes (at + 1)))) keys in
     rw (place-so, ps, ns, cs, ss, rs, owns, flags)
 
 pub flag-byte : (flag : Bool) → boolByte flag ≡ cond flag 1 0

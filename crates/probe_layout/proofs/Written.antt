@@ -14,9 +14,10 @@ use borrow.Author.Tests.{leb-true, eqb-true}
 use Rattle.logic.proofs.Tests.{and-left, and-right}
 use Rattle.field.specs.Layout.{numberIn, bytesIn, Bytes}
 use Rattle.field.specs.Field.{fieldAt}
-use Rattle.calls.specs.Calls.{callNamed}
+use Rattle.calls.specs.Calls.{callNamed, codeOf}
+use Rattle.calls.proofs.Told.{code-of-its-call}
 use Rattle.probe_layout.specs.Bytes.{byteAt, twoAt, fourAt, each, low, oneByOne}
-use Rattle.probe_layout.specs.Records.{callNumber, placed, placeBytes, recordAt, recordFits, recordBytes}
+use Rattle.probe_layout.specs.Records.{placeNumbered, placeBytes, recordAt, recordFits, recordBytes}
 use Rattle.probe_layout.specs.Layout.{kindsIn, keysIn, nextsIn, backsIn, keysFrom, nextsFrom, backsFrom, endOf, tableIn, stateIn, machineIn, stateBytes, machineBytes}
 use Rattle.probe_layout.specs.Claims.{NumbersAreFields, ReadIsWritten}
 use Rattle.probe_layout.proofs.Fitting.{Fit, fit-of}
@@ -100,25 +101,18 @@ unfolding each
 long-each read width zero at = refl
 long-each read width (suc count) at = ap suc (long-each read width count (at + width))
 
--- a call's number is the one that named it
-call-back : (number : ℕ) → number ≤ 2 → callNumber (callNamed number) ≡ number
-call-back zero small = refl
-call-back (suc zero) small = refl
-call-back (suc (suc zero)) small = refl
-call-back (suc (suc (suc more))) small = absurd (omega arith)
-
 -- a known place's bytes are those that named it; the numbers from 1 to 8 alike
 place-back : (number call key : ℕ) → number ≤ 8 → call ≤ 2 → (number ≡ 0 → (call ≡ 0) × (key ≡ 0)) →
-    number ∷ call ∷ low 4 key ≡ placeBytes (placed number (callNamed call) key)
+    number ∷ call ∷ low 4 key ≡ placeBytes (placeNumbered number (callNamed call) key)
 place-back zero call key known calls idle = rw (idle refl .0, idle refl .1)
-place-back (suc zero) call key known calls idle = ap (λ (n : ℕ). 1 ∷ n ∷ low 4 key) (sym (call-back call calls))
-place-back (suc (suc zero)) call key known calls idle = ap (λ (n : ℕ). 2 ∷ n ∷ low 4 key) (sym (call-back call calls))
-place-back (suc (suc (suc zero))) call key known calls idle = ap (λ (n : ℕ). 3 ∷ n ∷ low 4 key) (sym (call-back call calls))
-place-back (suc (suc (suc (suc zero)))) call key known calls idle = ap (λ (n : ℕ). 4 ∷ n ∷ low 4 key) (sym (call-back call calls))
-place-back (suc (suc (suc (suc (suc zero))))) call key known calls idle = ap (λ (n : ℕ). 5 ∷ n ∷ low 4 key) (sym (call-back call calls))
-place-back (suc (suc (suc (suc (suc (suc zero)))))) call key known calls idle = ap (λ (n : ℕ). 6 ∷ n ∷ low 4 key) (sym (call-back call calls))
-place-back (suc (suc (suc (suc (suc (suc (suc zero))))))) call key known calls idle = ap (λ (n : ℕ). 7 ∷ n ∷ low 4 key) (sym (call-back call calls))
-place-back (suc (suc (suc (suc (suc (suc (suc (suc zero)))))))) call key known calls idle = ap (λ (n : ℕ). 8 ∷ n ∷ low 4 key) (sym (call-back call calls))
+place-back (suc zero) call key known calls idle = ap (λ (n : ℕ). 1 ∷ n ∷ low 4 key) (sym (code-of-its-call call calls))
+place-back (suc (suc zero)) call key known calls idle = ap (λ (n : ℕ). 2 ∷ n ∷ low 4 key) (sym (code-of-its-call call calls))
+place-back (suc (suc (suc zero))) call key known calls idle = ap (λ (n : ℕ). 3 ∷ n ∷ low 4 key) (sym (code-of-its-call call calls))
+place-back (suc (suc (suc (suc zero)))) call key known calls idle = ap (λ (n : ℕ). 4 ∷ n ∷ low 4 key) (sym (code-of-its-call call calls))
+place-back (suc (suc (suc (suc (suc zero))))) call key known calls idle = ap (λ (n : ℕ). 5 ∷ n ∷ low 4 key) (sym (code-of-its-call call calls))
+place-back (suc (suc (suc (suc (suc (suc zero)))))) call key known calls idle = ap (λ (n : ℕ). 6 ∷ n ∷ low 4 key) (sym (code-of-its-call call calls))
+place-back (suc (suc (suc (suc (suc (suc (suc zero))))))) call key known calls idle = ap (λ (n : ℕ). 7 ∷ n ∷ low 4 key) (sym (code-of-its-call call calls))
+place-back (suc (suc (suc (suc (suc (suc (suc (suc zero)))))))) call key known calls idle = ap (λ (n : ℕ). 8 ∷ n ∷ low 4 key) (sym (code-of-its-call call calls))
 place-back (suc (suc (suc (suc (suc (suc (suc (suc (suc more))))))))) call key known calls idle = absurd (omega arith)
 
 flag-back : (flag : ℕ) → flag ≤ 1 → flag ≡ cond (eqb flag 1) 1 0

@@ -6,6 +6,7 @@ use lib.ListN.{length}
 use lib.Dec.{eqb, ltb, leb}
 use Rattle.logic.specs.Every.{every}
 use Rattle.list_rows.specs.Table.{Table, tab}
+use Rattle.calls.specs.declared.Tallies.{Tallies}
 use Rattle.list_party.specs.declared.State.{State}
 use Rattle.list_unchecked.specs.Unchecked.{Machine, machine}
 use Rattle.probe_layout.specs.declared.Question.{Question}
@@ -73,8 +74,11 @@ endOf bytes = backsFrom bytes + 2 * backsIn bytes
 
 unfoldable pub tableIn : List ℕ → Table
 tableIn bytes =
-    tab (each (byteAt bytes) 1 (kindsIn bytes) 363) (each (fourAt bytes) 4 (keysIn bytes) (keysFrom bytes))
-    (each (twoAt bytes) 2 (nextsIn bytes) (nextsFrom bytes)) (each (twoAt bytes) 2 (backsIn bytes) (backsFrom bytes))
+    tab
+    (each (byteAt bytes) 1 (kindsIn bytes) 363)
+    (each (fourAt bytes) 4 (keysIn bytes) (keysFrom bytes))
+    (each (twoAt bytes) 2 (nextsIn bytes) (nextsFrom bytes))
+    (each (twoAt bytes) 2 (backsIn bytes) (backsFrom bytes))
 
 -- the lengths of these columns are those of the layout
 unfoldable pub roomsFit : List ℕ → Table → Bool
@@ -90,14 +94,15 @@ tableInto bytes t = cond (roomsFit bytes t) (tableIn bytes) t
 
 -- ---- the state; P and T have four bytes each, of which one and two may differ from 0
 
+abbrev pub talliesIn : List ℕ → Tallies
+talliesIn bytes = record { moves = fourAt bytes 31; won = fourAt bytes 35; lost = fourAt bytes 39 }
+
 unfoldable pub stateIn : List ℕ → State
 stateIn bytes = record {
   parties = each (recordAt bytes) 20 16 43;
   count = byteAt bytes 23;
   taken = twoAt bytes 27;
-  moves = fourAt bytes 31;
-  won = fourAt bytes 35;
-  lost = fourAt bytes 39;
+  tallies = talliesIn bytes;
 }
 
 abbrev pub machineIn : List ℕ → Machine
@@ -120,7 +125,9 @@ fits bytes =
 
 unfoldable pub stateBytes : State → List ℕ
 stateBytes st =
-    low 4 (st .count) ++ low 4 (st .taken) ++ low 4 (st .tallies .moves) ++ low 4 (st .tallies .won) ++ low 4 (st .tallies .lost) ++ recordsBytes (st .parties)
+    low 4 (st .count) ++ low 4 (st .taken)
+    ++ low 4 (st .tallies .moves) ++ low 4 (st .tallies .won) ++ low 4 (st .tallies .lost)
+    ++ recordsBytes (st .parties)
 
 unfoldable pub machineBytes : Machine → List ℕ
 machineBytes m =

@@ -1,45 +1,40 @@
--- A party record in twenty bytes: the numbers of places and calls, how a record is read, which ones fit, how one is written.
+-- A party record in twenty bytes: the numbers of places, how a record is read, which ones fit, how one is written.
 use mathlib.Core.List.{List, [], _∷_, _++_}
 use mathlib.Core.Bool.{Bool, cond, not, _&&_, _||_}
 use Prim.Native.Nat.{ℕ, _+_}
 use lib.ListN.{getD}
 use lib.Dec.{eqb, leb}
 use Rattle.calls.specs.declared.Call.{Call}
-use Rattle.calls.specs.declared.Call.the-variants.{Add, Remove, Contains}
 use Rattle.list_party.specs.declared.Place.{Place}
 use Rattle.list_party.specs.declared.Place.the-variants.{Idle, Walk, Skip, AddSwap, Mark, Reread, Clean, Back, Look}
 use Rattle.list_party.specs.declared.Party.{Party}
-use Rattle.calls.specs.Calls.{callNamed}
+use Rattle.calls.specs.Calls.{callNamed, codeOf}
 use Rattle.probe_layout.specs.declared.write.Spelled.{Spelled}
 use Rattle.probe_layout.specs.Bytes.{byteAt, twoAt, fourAt, low, oneByOne}
 
--- ---- numbers of places and calls
+-- ---- numbers of places
 
 -- 0 idle, 1 WALK, 2 SKIP, 3 ADDSWAP, 4 MARK, 5 REREAD, 6 CLEAN, 7 BACK, in this order
 abbrev pub numbered : Call → ℕ → List Place
 numbered call key =
-    Idle ∷ Walk call key ∷ Skip call key ∷ AddSwap call key ∷ Mark call key ∷ Reread call key ∷ Clean call key ∷ Back call key ∷ []
+    Idle ∷ Walk call key ∷ Skip call key ∷ AddSwap call key
+    ∷ Mark call key ∷ Reread call key ∷ Clean call key ∷ Back call key ∷ []
 
 -- the place of a number; 8 is LOOK, and a larger one does not fit
-abbrev pub placed : ℕ → Call → ℕ → Place
-placed number call key = getD (numbered call key) number (Look call key)
+abbrev pub placeNumbered : ℕ → Call → ℕ → Place
+placeNumbered number call key = getD (numbered call key) number (Look call key)
 
-abbrev pub callNumber : Call → ℕ
-callNumber Add = 0
-callNumber Remove = 1
-callNumber Contains = 2
-
--- the bytes of a place: its number, its call's number, its key; an idle party has neither
+-- the bytes of a place: its number, its call's code, its key; an idle party has neither
 abbrev pub placeBytes : Place → List ℕ
 placeBytes Idle = 0 ∷ 0 ∷ low 4 0
-placeBytes (Walk call key) = 1 ∷ callNumber call ∷ low 4 key
-placeBytes (Skip call key) = 2 ∷ callNumber call ∷ low 4 key
-placeBytes (AddSwap call key) = 3 ∷ callNumber call ∷ low 4 key
-placeBytes (Mark call key) = 4 ∷ callNumber call ∷ low 4 key
-placeBytes (Reread call key) = 5 ∷ callNumber call ∷ low 4 key
-placeBytes (Clean call key) = 6 ∷ callNumber call ∷ low 4 key
-placeBytes (Back call key) = 7 ∷ callNumber call ∷ low 4 key
-placeBytes (Look call key) = 8 ∷ callNumber call ∷ low 4 key
+placeBytes (Walk call key) = 1 ∷ codeOf call ∷ low 4 key
+placeBytes (Skip call key) = 2 ∷ codeOf call ∷ low 4 key
+placeBytes (AddSwap call key) = 3 ∷ codeOf call ∷ low 4 key
+placeBytes (Mark call key) = 4 ∷ codeOf call ∷ low 4 key
+placeBytes (Reread call key) = 5 ∷ codeOf call ∷ low 4 key
+placeBytes (Clean call key) = 6 ∷ codeOf call ∷ low 4 key
+placeBytes (Back call key) = 7 ∷ codeOf call ∷ low 4 key
+placeBytes (Look call key) = 8 ∷ codeOf call ∷ low 4 key
 
 -- the same bytes, as the code spells a place
 abbrev pub spelledBytes : Spelled → List ℕ
@@ -49,7 +44,7 @@ spelledBytes spelled = spelled .number ∷ spelled .call ∷ low 4 (spelled .key
 
 unfoldable pub recordAt : List ℕ → ℕ → Party
 recordAt bytes at = record {
-  place = placed (byteAt bytes at) (callNamed (byteAt bytes (at + 1))) (fourAt bytes (at + 2));
+  place = placeNumbered (byteAt bytes at) (callNamed (byteAt bytes (at + 1))) (fourAt bytes (at + 2));
   p = twoAt bytes (at + 6);
   n = twoAt bytes (at + 8);
   c = twoAt bytes (at + 10);
@@ -70,7 +65,8 @@ recordFits bytes at =
 
 unfoldable pub recordBytes : Party → List ℕ
 recordBytes q =
-    placeBytes (q .place) ++ low 2 (q .p) ++ low 2 (q .n) ++ low 2 (q .c) ++ low 2 (q .s) ++ low 2 (q .r) ++ low 2 (q .own)
+    placeBytes (q .place)
+    ++ low 2 (q .p) ++ low 2 (q .n) ++ low 2 (q .c) ++ low 2 (q .s) ++ low 2 (q .r) ++ low 2 (q .own)
     ++ (cond (q .unpublished) 1 0 ∷ 0 ∷ [])
 
 -- records one behind another

@@ -1,5 +1,6 @@
 // What is read from a question: numbers, party records, columns, and whether all of it fits the layout.
 use calls::Call;
+use calls::Tallies;
 use list_party::Party;
 use list_party::Place;
 use list_party::State;
@@ -8,10 +9,10 @@ ghost use mathlib.Core.Bool.{true};
 ghost use Prim.Native.Nat.{_+_, _*_, _<_};
 ghost use lib.ListN.{length};
 ghost use Rattle.logic.specs.Every.{every};
-ghost use Rattle.list_rows.specs.Table.{before, after};
+ghost use Rattle.list_rows.specs.Table.{tab, before, after};
 ghost use Rattle.probe_layout.specs.Bytes.{byteAt, twoAt, fourAt, each};
-ghost use Rattle.probe_layout.specs.Records.{placed, recordAt, recordFits};
-ghost use Rattle.probe_layout.specs.Layout.{tableIn, roomsFit, tableInto, stateIn, fits, endOf};
+ghost use Rattle.probe_layout.specs.Records.{placeNumbered, recordAt, recordFits};
+ghost use Rattle.probe_layout.specs.Layout.{tableIn, roomsFit, tableInto, talliesIn, stateIn, fits, endOf};
 
 // The byte at a place; past the end, 0.
 pub(crate) fn byte_at(bytes: &[u8], at: usize) -> u8
@@ -41,8 +42,8 @@ pub(crate) fn four_at(bytes: &[u8], at: usize) -> u32
 }
 
 // The place of a number, with its call and its key.
-fn placed(number: u8, call: Call, key: u32) -> Place
-    ensures { λ r. ⌜ r ≡ placed number call key ⌝ }
+fn place_numbered(number: u8, call: Call, key: u32) -> Place
+    ensures { λ r. ⌜ r ≡ placeNumbered number call key ⌝ }
 {
     match number {
         0 => Place::Idle,
@@ -62,8 +63,8 @@ fn record_at(bytes: &[u8], at: usize) -> Party
     requires { ⌜ at < 65536 ⌝ }
     ensures { λ r. ⌜ r ≡ recordAt (now (bytes .entry)) at ⌝ }
 {
-    let call = list::call_named(byte_at(bytes, at + 1) as u32);
-    let place = placed(byte_at(bytes, at), call, four_at(bytes, at + 2));
+    let call = Call::named(byte_at(bytes, at + 1) as u32);
+    let place = place_numbered(byte_at(bytes, at), call, four_at(bytes, at + 2));
     Party {
         place,
         p: two_at(bytes, at + 6),
@@ -103,6 +104,17 @@ fn records_fit(bytes: &[u8]) -> bool
     all
 }
 
+// The tallies.
+fn tallies_in(bytes: &[u8]) -> Tallies
+    ensures { λ r. ⌜ r ≡ talliesIn (now (bytes .entry)) ⌝ }
+{
+    Tallies {
+        moves: four_at(bytes, 31),
+        won: four_at(bytes, 35),
+        lost: four_at(bytes, 39),
+    }
+}
+
 // The state: the sixteen party records and the numbers before them.
 pub fn state_in(bytes: &[u8]) -> State
     ensures { λ r. ⌜ r ≡ stateIn (now (bytes .entry)) ⌝ }
@@ -118,16 +130,15 @@ pub fn state_in(bytes: &[u8]) -> State
         parties,
         count: byte_at(bytes, 23),
         taken: two_at(bytes, 27),
-        moves: four_at(bytes, 31),
-        won: four_at(bytes, 35),
-        lost: four_at(bytes, 39),
+        tallies: tallies_in(bytes),
     }
 }
 
 // Reads a column of bytes from a place on.
 fn read_u8s(bytes: &[u8], from: usize, column: &mut [u8])
     requires { ⌜ from + length (now column) < 1048576 ⌝ }
-    ensures { λ r. ⌜ now (column .exit) ≡ each (byteAt (now (bytes .entry))) 1 (length (now (column .entry))) from ⌝ }
+    ensures { λ r. ⌜ now (column .exit)
+        ≡ each (byteAt (now (bytes .entry))) 1 (length (now (column .entry))) from ⌝ }
 {
     let mut i = 0;
     while i < column.len() {
@@ -139,7 +150,8 @@ fn read_u8s(bytes: &[u8], from: usize, column: &mut [u8])
 // Reads a column of numbers of two bytes from a place on.
 fn read_u16s(bytes: &[u8], from: usize, column: &mut [u16])
     requires { ⌜ from + 2 * length (now column) < 1048576 ⌝ }
-    ensures { λ r. ⌜ now (column .exit) ≡ each (twoAt (now (bytes .entry))) 2 (length (now (column .entry))) from ⌝ }
+    ensures { λ r. ⌜ now (column .exit)
+        ≡ each (twoAt (now (bytes .entry))) 2 (length (now (column .entry))) from ⌝ }
 {
     let mut i = 0;
     while i < column.len() {
@@ -151,7 +163,8 @@ fn read_u16s(bytes: &[u8], from: usize, column: &mut [u16])
 // Reads a column of numbers of four bytes from a place on.
 fn read_u32s(bytes: &[u8], from: usize, column: &mut [u32])
     requires { ⌜ from + 4 * length (now column) < 1048576 ⌝ }
-    ensures { λ r. ⌜ now (column .exit) ≡ each (fourAt (now (bytes .entry))) 4 (length (now (column .entry))) from ⌝ }
+    ensures { λ r. ⌜ now (column .exit)
+        ≡ each (fourAt (now (bytes .entry))) 4 (length (now (column .entry))) from ⌝ }
 {
     let mut i = 0;
     while i < column.len() {

@@ -8,11 +8,12 @@ use page::put_byte;
 ghost use mathlib.Core.Path.{_≡_};
 ghost use mathlib.Core.Bool.{cond};
 ghost use mathlib.Core.List.{[], _∷_};
+ghost use Rattle.calls.specs.Calls.{codeOf};
 ghost use Rattle.list_rows.specs.Table.{before, after};
 ghost use Rattle.page.specs.Page.{Puts};
 ghost use Rattle.list_unchecked.specs.Unchecked.{machine};
 ghost use Rattle.probe_layout.specs.Bytes.{low, lows};
-ghost use Rattle.probe_layout.specs.Records.{spelledBytes, callNumber, placeBytes, recordBytes, recordsBytes};
+ghost use Rattle.probe_layout.specs.Records.{spelledBytes, placeBytes, recordBytes, recordsBytes};
 ghost use Rattle.probe_layout.specs.Layout.{stateBytes, machineBytes};
 
 // Two bytes of a number, the low byte first.
@@ -71,24 +72,13 @@ struct Spelled {
     key: u32,
 }
 
-// The number of a call.
-fn call_number(call: Call) -> u8
-    ensures { λ r. ⌜ r ≡ callNumber call ⌝ }
-{
-    match call {
-        Call::Add => 0,
-        Call::Remove => 1,
-        Call::Contains => 2,
-    }
-}
-
 // A place of a number, with its call and its key.
 fn spell(number: u8, call: Call, key: u32) -> Spelled
-    ensures { λ r. ⌜ spelledBytes r ≡ number ∷ callNumber call ∷ low 4 key ⌝ }
+    ensures { λ r. ⌜ spelledBytes r ≡ number ∷ codeOf call ∷ low 4 key ⌝ }
 {
     Spelled {
         number,
-        call: call_number(call),
+        call: call.code(),
         key,
     }
 }
@@ -162,9 +152,9 @@ fn put_state(out: &mut [u8], to: usize, state: State) -> usize
 {
     let a = put_four(out, to, state.count as usize);
     let b = put_four(out, a, state.taken as usize);
-    let c = put_four(out, b, state.moves as usize);
-    let d = put_four(out, c, state.won as usize);
-    let e = put_four(out, d, state.lost as usize);
+    let c = put_four(out, b, state.tallies.moves as usize);
+    let d = put_four(out, c, state.tallies.won as usize);
+    let e = put_four(out, d, state.tallies.lost as usize);
     put_records(out, e, state)
 }
 

@@ -12,8 +12,8 @@ returns c =
     let c9 = c .before .before .before .before .before .before .before .before .before in
     let c14 = c9 .before .before .before .before .before in
     let c20 = c14 .before .before .before .before .before .before in
-    asks-set-up (c20 .args .asked) _ (c20 .args .places .now) _ (c9 .set-up .result) (c14 .match .keys1) (c9 .set-up .ensures)
-    (c .set-up-found .ensures _ (c20 .args .places .now))
+    asks-set-up (c20 .args .asked) _ (c20 .args .places .now) (c14 .match .keys1) (c9 .set-up .ensures)
+    (c .done-found .ensures _ (c20 .args .places .now))
 
 returns-2 : tie.Need-returns-2
 returns-2 c =
@@ -21,7 +21,7 @@ returns-2 c =
     let c14 = c9 .before .before .before .before .before in
     let c20 = c14 .before .before .before .before .before .before in
     asks-call (c20 .args .asked) _ (c20 .args .places .now) (c14 .match .keys2) (c9 .call .ensures)
-    (c .call-found .ensures _ (c20 .args .places .now))
+    (c .done-found2 .ensures _ (c20 .args .places .now))
 
 returns-3 : tie.Need-returns-3
 returns-3 c =

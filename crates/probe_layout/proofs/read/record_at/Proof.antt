@@ -19,8 +19,8 @@ returns c =
     let c10 = c9 .before in
     let c11 = c10 .before in
     let c13 = c11 .before .before in
-    record-told (c13 .args .bytes .now) (c13 .args .at) (c11 .byte-at .ensures) (c10 .call-named .ensures)
-    (c9 .byte-at2 .ensures) (c8 .four-at .ensures) (c7 .placed .ensures) (c6 .two-at .ensures) (c5 .two-at2 .ensures)
+    record-told (c13 .args .bytes .now) (c13 .args .at) (c11 .byte-at .ensures) (c10 .named .ensures)
+    (c9 .byte-at2 .ensures) (c8 .four-at .ensures) (c7 .place-numbered .ensures) (c6 .two-at .ensures) (c5 .two-at2 .ensures)
     (c4 .two-at3 .ensures) (c3 .two-at4 .ensures) (c2 .two-at5 .ensures) (c1 .two-at6 .ensures) (c .byte-at3 .ensures)
 
 pub record-at-spec : {M : Type 1} → statement M

@@ -32,14 +32,11 @@ loop-again c =
 returns : tie.Need-returns Inv-loop μ-loop
 unfolding stateIn
 returns c =
-    let c1 = c .before in
-    let c2 = c1 .before in
-    let c3 = c2 .before in
-    let c4 = c3 .before in
-    let c6 = c4 .before .before in
-    let c9 = c6 .before .before .before in
-    let table = read-all (recordAt (c9 .args .bytes .now)) 20 _ 43 (c6 .loop .i) (c6 .loop .inv .2) (omega arith) in rw
-    (table, c .four-at3 .ensures, c1 .four-at2 .ensures, c2 .four-at .ensures, c3 .two-at .ensures, c4 .byte-at .ensures)
+    let c2 = c .before .before in
+    let c4 = c2 .before .before in
+    let c7 = c4 .before .before .before in
+    let table = read-all (recordAt (c7 .args .bytes .now)) 20 _ 43 (c4 .loop .i) (c4 .loop .inv .2) (omega arith) in
+    rw (table, c .tallies-in .ensures, c .before .two-at .ensures, c2 .byte-at .ensures)
 
 pub state-in-spec : {M : Type 1} → statement M
 state-in-spec =
@@ -47,4 +44,4 @@ state-in-spec =
     (tie.spec
     Inv-loop μ-loop (λ c κs. search needs) loop-holds (λ c. omega arith) (λ c. omega arith) (λ c κs. omega arith)
     (λ c. omega arith) (λ c. omega arith) (λ c. omega arith) (λ c. omega arith) loop-again (λ c κs. search needs)
-    (λ c κs. search needs) (λ c κs. search needs) (λ c κs. search needs) (λ c κs. search needs) returns)
+    (λ c κs. search needs) (λ c κs. search needs) returns)

@@ -6,7 +6,7 @@ use Rattle.probe_layout.proofs.write.spell.Tie as tie
 
 returns : tie.Need-returns
 returns c =
-    rw (c .call-number .ensures)
+    rw (c .code .ensures)
 
 pub spell-spec : {M : Type 1} → statement M
 spell-spec =
