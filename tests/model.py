@@ -1,7 +1,7 @@
 """A model of document 01 in plain Python: the list, with good form, calls, moves, listing and refusals.
 
 It was written from the document and shares nothing with the crates, so that the two can be held against each other.
-schedules.py has the schedule program's side of it, packed.py the probe's.
+schedules.py has the schedule program's side of it, probe_layout.py the probe's.
 """
 import copy
 

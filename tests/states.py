@@ -1,7 +1,7 @@
 """States and questions for the probe: noise, damaged, of plausible shape, nearly and wholly of good form, and grown."""
 from model import (ADD, BACK, CALL_NAMES, CLEAN, CONTAINS, IDLE, ITEM, LOOK, MARK, MOST_MOVES, REACHED, REMOVE, REREAD,
                    SPLICE, VALUES, Party, State, begin, call_refusal, make_move, move_refusal)
-from packed import CALL, LISTING, MOVE, SET_UP, Question, pack
+from probe_layout import CALL, LISTING, MOVE, SET_UP, Question, pack
 
 KINDS = ('noise', 'damaged', 'plausible', 'nearly good form', 'good form', 'grown', 'chain')
 KEYS = (0, 1, 2, 3, 4, 5, 2147483647, 2147483648, 4294967295)
