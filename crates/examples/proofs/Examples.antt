@@ -3,7 +3,24 @@
 use Prim.{tt}
 use mathlib.Core.Path.{refl}
 use Rattle.list_rows.specs.Order.{rank}
-use Rattle.list_moves.specs.Moves.{prepareOf, onwardOf, landedAddOf, landedUnmarkedOf, landedMarkedOf, landedRemoveOf, landedContainsOf, walkOf, skipOf, addSwapOf, markOf, rereadOf, cleanOf, backOf, lookOnOf, lookOf}
+use Rattle.list_moves.specs.Moves.{
+  prepareOf,
+  onwardOf,
+  landedAddOf,
+  landedUnmarkedOf,
+  landedMarkedOf,
+  landedRemoveOf,
+  landedContainsOf,
+  walkOf,
+  skipOf,
+  addSwapOf,
+  markOf,
+  rereadOf,
+  cleanOf,
+  backOf,
+  lookOnOf,
+  lookOf,
+}
 use Rattle.list_unchecked.specs.Unchecked.{begunOf, uncheckedCall, uncheckedMove}
 use Rattle.list_form.specs.Form.{kindsFit, keysFit, linksFit, recordFits, partiesFit, goodRows, goodParties, goodForm}
 use Rattle.list_chain.specs.Chain.{rises, liveFrom}
@@ -23,5 +40,9 @@ use Rattle.list_replay.specs.Output.{lineSays, saysFrom, lastOf, closing, outpu
 use Rattle.examples.specs.Table.{ExamplesHold}
 
 pub examples-hold : ExamplesHold
-unfolding word placeAfter digitOf nextDigit hexOf pairAt fieldAt digits askedText answerLine refusedLine heard replyLine numberLine keyLines tallyLines verbAt callLine stepLine endLine lineAt rowsOf partiesLine nodesLine orderLine firstLost headOf mostLines bodyFrom endBad lastBad badFrom firstBad loaded lineOf lineSays saysFrom lastOf closing outputBy setUpOf callOf moveOf rises liveFrom goodRows goodParties goodForm kindsFit keysFit linksFit recordFits partiesFit uncheckedCall begunOf uncheckedMove walkOf onwardOf landedAddOf landedUnmarkedOf landedMarkedOf landedRemoveOf landedContainsOf prepareOf skipOf addSwapOf markOf rereadOf cleanOf backOf lookOnOf lookOf rank numberIn fieldTests loadOf field.fieldAt run replies listOf
+unfolding word placeAfter digitOf nextDigit hexOf pairAt fieldAt digits askedText answerLine refusedLine heard replyLine numberLine keyLines tallyLines verbAt
+    callLine stepLine endLine lineAt rowsOf partiesLine nodesLine orderLine firstLost headOf mostLines bodyFrom endBad lastBad badFrom firstBad loaded lineOf
+    lineSays saysFrom lastOf closing outputBy setUpOf callOf moveOf rises liveFrom goodRows goodParties goodForm kindsFit keysFit linksFit recordFits partiesFit
+    uncheckedCall begunOf uncheckedMove walkOf onwardOf landedAddOf landedUnmarkedOf landedMarkedOf landedRemoveOf landedContainsOf prepareOf skipOf addSwapOf
+    markOf rereadOf cleanOf backOf lookOnOf lookOf rank numberIn fieldTests loadOf field.fieldAt run replies listOf
 examples-hold = (refl, (refl, (refl, (refl, (refl, (refl, (refl, (refl, (refl, (refl, (refl, tt)))))))))))

@@ -8,6 +8,7 @@ use Rattle.columns.specs.Column.{zeros}
 use Rattle.refusal.specs.Answer.{Answer, accepted, Left, left}
 use Rattle.list_party.specs.declared.Place.{Place}
 use Rattle.list_party.specs.declared.Party.{Party}
+use Rattle.calls.specs.declared.Tallies.{Tallies}
 use Rattle.calls.specs.Words.{Word}
 use Rattle.list_unchecked.specs.Unchecked.{Machine}
 use Rattle.list.specs.Engine.{listOf}
@@ -22,9 +23,7 @@ pub record Standing : Type 0 where
   pub places : List Place
   pub listing : Left (List ℕ) ℕ
   pub taken : ℕ
-  pub moves : ℕ
-  pub won : ℕ
-  pub lost : ℕ
+  pub tallies : Tallies
 
 -- one stage of a run: its events, the answer to each, and how things stand behind the last of them
 pub record Stage : Type 0 where
@@ -52,9 +51,7 @@ standingOf m room = record {
   places = placesOf (take (m .state .count) (m .state .parties));
   listing = listOf m (zeros room);
   taken = m .state .taken;
-  moves = m .state .tallies .moves;
-  won = m .state .tallies .won;
-  lost = m .state .tallies .lost;
+  tallies = m .state .tallies;
 }
 
 -- the events of a stage on a list; a listing gets as many places as the stage has keys
@@ -97,6 +94,7 @@ alone party code key number = calls party code key ∷ replicate number (moves p
 abbrev pub silent : (number : ℕ) → List (Answer Word)
 silent number = replicate number going
 
--- the answers to a call and then its moves: nothing is said, by the call nor by a move, until the move of this number says it
+-- the answers to a call and then its moves: nothing is said, by the call nor by a move, until the move of this number
+-- says it
 abbrev pub by-move : (number : ℕ) → Word → List (Answer Word)
 by-move number word = silent number ++ (accepted word ∷ [])

@@ -28,7 +28,12 @@ fiveAdded parties =
     record {
       events = alone 0 add 5 3;
       answers = by-move 3 yes;
-      after = record { places = parties; listing = listed (5 ∷ []); taken = 5; moves = 3; won = 1; lost = 0 };
+      after = record {
+        places = parties;
+        listing = listed (5 ∷ []);
+        taken = 5;
+        tallies = record { moves = 3; won = 1; lost = 0 };
+      };
     }
 
 -- of two parties, party 0 has marked 5, which thereby is gone, and stands at CLEAN
@@ -38,7 +43,12 @@ fiveMarked =
     ∷ record {
       events = alone 0 remove 5 3;
       answers = silent 4;
-      after = record { places = Clean Remove 5 ∷ Idle ∷ []; listing = listed []; taken = 6; moves = 6; won = 2; lost = 0 };
+      after = record {
+        places = Clean Remove 5 ∷ Idle ∷ [];
+        listing = listed [];
+        taken = 6;
+        tallies = record { moves = 6; won = 2; lost = 0 };
+      };
     }
     ∷ []
 
@@ -54,7 +64,12 @@ E2 = list 8 1
     (record {
       events = [];
       answers = [];
-      after = record { places = Idle ∷ []; listing = listed []; taken = 4; moves = 0; won = 0; lost = 0 };
+      after = record {
+        places = Idle ∷ [];
+        listing = listed [];
+        taken = 4;
+        tallies = record { moves = 0; won = 0; lost = 0 };
+      };
     }
     ∷ [])
 
@@ -62,24 +77,40 @@ E2 = list 8 1
 abbrev pub E3 : Example
 E3 = list 8 1 (fiveAdded (Idle ∷ []) ∷ [])
 
--- a REMOVE on an empty list is answered no by its second move; the party's next ADD takes no row: it has the REMOVE's, and T
+-- a REMOVE on an empty list is answered no by its second move; the party's next ADD takes no row: it has the REMOVE's,
+-- and T
 -- stays 5
 abbrev pub E4 : Example
 E4 = list 8 1
     (record {
       events = alone 0 remove 5 2;
       answers = by-move 2 no;
-      after = record { places = Idle ∷ []; listing = listed []; taken = 5; moves = 2; won = 0; lost = 0 };
+      after = record {
+        places = Idle ∷ [];
+        listing = listed [];
+        taken = 5;
+        tallies = record { moves = 2; won = 0; lost = 0 };
+      };
     }
     ∷ record {
       events = calls 0 add 7 ∷ [];
       answers = going ∷ [];
-      after = record { places = Walk Add 7 ∷ []; listing = listed []; taken = 5; moves = 2; won = 0; lost = 0 };
+      after = record {
+        places = Walk Add 7 ∷ [];
+        listing = listed [];
+        taken = 5;
+        tallies = record { moves = 2; won = 0; lost = 0 };
+      };
     }
     ∷ record {
       events = moves 0 ∷ moves 0 ∷ moves 0 ∷ [];
       answers = going ∷ going ∷ accepted yes ∷ [];
-      after = record { places = Idle ∷ []; listing = listed (7 ∷ []); taken = 5; moves = 5; won = 1; lost = 0 };
+      after = record {
+        places = Idle ∷ [];
+        listing = listed (7 ∷ []);
+        taken = 5;
+        tallies = record { moves = 5; won = 1; lost = 0 };
+      };
     }
     ∷ [])
 
@@ -89,7 +120,12 @@ E5 = list 8 1
     (record {
       events = alone 0 contains 5 2;
       answers = by-move 2 no;
-      after = record { places = Idle ∷ []; listing = listed []; taken = 4; moves = 2; won = 0; lost = 0 };
+      after = record {
+        places = Idle ∷ [];
+        listing = listed [];
+        taken = 4;
+        tallies = record { moves = 2; won = 0; lost = 0 };
+      };
     }
     ∷ [])
 
@@ -100,7 +136,12 @@ E6 = list 8 1
     ∷ record {
       events = alone 0 remove 5 4;
       answers = by-move 4 yes;
-      after = record { places = Idle ∷ []; listing = listed []; taken = 6; moves = 7; won = 3; lost = 0 };
+      after = record {
+        places = Idle ∷ [];
+        listing = listed [];
+        taken = 6;
+        tallies = record { moves = 7; won = 3; lost = 0 };
+      };
     }
     ∷ [])
 
@@ -111,11 +152,17 @@ E7 = list 12 2
     ++ (record {
       events = alone 1 contains 5 2;
       answers = by-move 2 no;
-      after = record { places = Clean Remove 5 ∷ Idle ∷ []; listing = listed []; taken = 6; moves = 8; won = 2; lost = 0 };
+      after = record {
+        places = Clean Remove 5 ∷ Idle ∷ [];
+        listing = listed [];
+        taken = 6;
+        tallies = record { moves = 8; won = 2; lost = 0 };
+      };
     }
     ∷ []))
 
--- from the state of E7 before its CONTAINS an ADD of 5 by the other party is answered yes by its fourth move; the remover then
+-- from the state of E7 before its CONTAINS an ADD of 5 by the other party is answered yes by its fourth move; the
+-- remover then
 -- loses CLEAN, and two moves later is answered yes
 abbrev pub E8 : Example
 E8 = list 12 2
@@ -123,17 +170,32 @@ E8 = list 12 2
     ++ (record {
       events = alone 1 add 5 4;
       answers = by-move 4 yes;
-      after = record { places = Clean Remove 5 ∷ Idle ∷ []; listing = listed (5 ∷ []); taken = 7; moves = 10; won = 3; lost = 0 };
+      after = record {
+        places = Clean Remove 5 ∷ Idle ∷ [];
+        listing = listed (5 ∷ []);
+        taken = 7;
+        tallies = record { moves = 10; won = 3; lost = 0 };
+      };
     }
     ∷ record {
       events = moves 0 ∷ [];
       answers = going ∷ [];
-      after = record { places = Back Remove 5 ∷ Idle ∷ []; listing = listed (5 ∷ []); taken = 7; moves = 11; won = 3; lost = 1 };
+      after = record {
+        places = Back Remove 5 ∷ Idle ∷ [];
+        listing = listed (5 ∷ []);
+        taken = 7;
+        tallies = record { moves = 11; won = 3; lost = 1 };
+      };
     }
     ∷ record {
       events = moves 0 ∷ moves 0 ∷ [];
       answers = going ∷ accepted yes ∷ [];
-      after = record { places = Idle ∷ Idle ∷ []; listing = listed (5 ∷ []); taken = 7; moves = 13; won = 3; lost = 1 };
+      after = record {
+        places = Idle ∷ Idle ∷ [];
+        listing = listed (5 ∷ []);
+        taken = 7;
+        tallies = record { moves = 13; won = 3; lost = 1 };
+      };
     }
     ∷ []))
 
@@ -145,27 +207,52 @@ E9 = list 12 2
     ∷ record {
       events = alone 0 remove 5 2 ++ alone 1 remove 5 2;
       answers = silent 6;
-      after = record { places = Mark Remove 5 ∷ Mark Remove 5 ∷ []; listing = listed (5 ∷ []); taken = 7; moves = 7; won = 1; lost = 0 };
+      after = record {
+        places = Mark Remove 5 ∷ Mark Remove 5 ∷ [];
+        listing = listed (5 ∷ []);
+        taken = 7;
+        tallies = record { moves = 7; won = 1; lost = 0 };
+      };
     }
     ∷ record {
       events = moves 0 ∷ [];
       answers = going ∷ [];
-      after = record { places = Clean Remove 5 ∷ Mark Remove 5 ∷ []; listing = listed []; taken = 7; moves = 8; won = 2; lost = 0 };
+      after = record {
+        places = Clean Remove 5 ∷ Mark Remove 5 ∷ [];
+        listing = listed [];
+        taken = 7;
+        tallies = record { moves = 8; won = 2; lost = 0 };
+      };
     }
     ∷ record {
       events = moves 1 ∷ [];
       answers = going ∷ [];
-      after = record { places = Clean Remove 5 ∷ Reread Remove 5 ∷ []; listing = listed []; taken = 7; moves = 9; won = 2; lost = 1 };
+      after = record {
+        places = Clean Remove 5 ∷ Reread Remove 5 ∷ [];
+        listing = listed [];
+        taken = 7;
+        tallies = record { moves = 9; won = 2; lost = 1 };
+      };
     }
     ∷ record {
       events = moves 1 ∷ [];
       answers = accepted no ∷ [];
-      after = record { places = Clean Remove 5 ∷ Idle ∷ []; listing = listed []; taken = 7; moves = 10; won = 2; lost = 1 };
+      after = record {
+        places = Clean Remove 5 ∷ Idle ∷ [];
+        listing = listed [];
+        taken = 7;
+        tallies = record { moves = 10; won = 2; lost = 1 };
+      };
     }
     ∷ record {
       events = moves 0 ∷ [];
       answers = accepted yes ∷ [];
-      after = record { places = Idle ∷ Idle ∷ []; listing = listed []; taken = 7; moves = 11; won = 3; lost = 1 };
+      after = record {
+        places = Idle ∷ Idle ∷ [];
+        listing = listed [];
+        taken = 7;
+        tallies = record { moves = 11; won = 3; lost = 1 };
+      };
     }
     ∷ [])
 
@@ -175,12 +262,22 @@ E10 = list 8 1
     (record {
       events = alone 0 add 4294967295 3;
       answers = by-move 3 yes;
-      after = record { places = Idle ∷ []; listing = listed (4294967295 ∷ []); taken = 5; moves = 3; won = 1; lost = 0 };
+      after = record {
+        places = Idle ∷ [];
+        listing = listed (4294967295 ∷ []);
+        taken = 5;
+        tallies = record { moves = 3; won = 1; lost = 0 };
+      };
     }
     ∷ record {
       events = alone 0 add 0 3;
       answers = by-move 3 yes;
-      after = record { places = Idle ∷ []; listing = listed (0 ∷ 4294967295 ∷ []); taken = 6; moves = 6; won = 2; lost = 0 };
+      after = record {
+        places = Idle ∷ [];
+        listing = listed (0 ∷ 4294967295 ∷ []);
+        taken = 6;
+        tallies = record { moves = 6; won = 2; lost = 0 };
+      };
     }
     ∷ [])
 

@@ -59,7 +59,8 @@ four-and-zeros test a b c d rows ha hb hc hd h zero below = ha
 four-and-zeros test a b c d rows ha hb hc hd h (suc zero) below = hb
 four-and-zeros test a b c d rows ha hb hc hd h (suc (suc zero)) below = hc
 four-and-zeros test a b c d rows ha hb hc hd h (suc (suc (suc zero))) below = hd
-four-and-zeros test a b c d rows ha hb hc hd h (suc (suc (suc (suc row)))) below = rw (repeat-at {A = ℕ} 0 rows row) (h (suc (suc (suc (suc row)))) (omega arith))
+four-and-zeros test a b c d rows ha hb hc hd h (suc (suc (suc (suc row)))) below = rw (repeat-at {A = ℕ} 0 rows row)
+    (h (suc (suc (suc (suc row)))) (omega arith))
 
 fresh-rows : (rows : ℕ) → 4 ≤ rows → Rows 4 (freshTable rows)
 fresh-rows zero enough = absurd (omega arith)

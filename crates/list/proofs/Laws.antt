@@ -28,7 +28,25 @@ use Rattle.list_form.proofs.Good.{two}
 use Rattle.list_form.specs.Form.{rowsIn, goodForm}
 use Rattle.list_fresh.specs.Fresh.{freshTable, emptied}
 use Rattle.list_party.specs.State.{restingState}
-use Rattle.list.specs.Engine.{badTable, formTests, badParties, setUpTests, setUpOf, callAsks, callTests, callOf, moveAsks, moveTests, accepting, moveOf, chainRises, liveKeys, listTests, placesWith, listOf}
+use Rattle.list.specs.Engine.{
+  badTable,
+  formTests,
+  badParties,
+  setUpTests,
+  setUpOf,
+  callAsks,
+  callTests,
+  callOf,
+  moveAsks,
+  moveTests,
+  accepting,
+  moveOf,
+  chainRises,
+  liveKeys,
+  listTests,
+  placesWith,
+  listOf,
+}
 use Rattle.calls.specs.Calls.{callNamed}
 
 -- what is repeated stands everywhere
@@ -160,7 +178,8 @@ module _ (m : Machine) (places : List ℕ) where
       let passes : listTests m (length places) ≡ passed = form-told m asked (rw (← rise-is, ← counts) asks) forms is in
       let listed : sets places 0 (liveKeys m) ≡ placesWith (liveKeys m) places =
       rw zero-add at (sets-eq (liveKeys m) places 0 (rw zero-add (room passes))) in
-      rw (writes, counts, listed) (leaves-changed (listTests m (length places)) places (left (placesWith (liveKeys m) places) (accepted (length (liveKeys m)))) passes)
+      rw (writes, counts, listed) (leaves-changed (listTests m (length places)) places
+      (left (placesWith (liveKeys m) places) (accepted (length (liveKeys m)))) passes)
 
   pub list-refuses : (asked : Verdict) {verdict : Verdict} {rise : Bool} {count : ℕ} {why : Refusal} →
       rise ≡ chainRises m → count ≡ length (liveKeys m) →

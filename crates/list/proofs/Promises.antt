@@ -14,9 +14,33 @@ use Rattle.list.specs.declared.Listed.the-variants.{Keys, Refused}
 use Rattle.calls.specs.Words.{wordOf}
 use Rattle.list_fresh.specs.Fresh.{freshTable}
 use Rattle.list_party.specs.State.{restingState}
-use Rattle.list.specs.Engine.{badTable, formTests, setUpTests, setUpOf, callAsks, callTests, callOf, moveAsks, moveTests, accepting, moveOf, liveKeys, listTests, placesWith, listOf}
+use Rattle.list.specs.Engine.{
+  badTable,
+  formTests,
+  setUpTests,
+  setUpOf,
+  callAsks,
+  callTests,
+  callOf,
+  moveAsks,
+  moveTests,
+  accepting,
+  moveOf,
+  liveKeys,
+  listTests,
+  placesWith,
+  listOf,
+}
 use Rattle.calls.specs.Calls.{callNamed}
-use Rattle.list.specs.Claims.{CallOnGoodForm, MoveOnGoodForm, RefusedSetUpLeaves, RefusedCallLeaves, RefusedMoveLeaves, RefusedListingLeaves, ListedDiffer}
+use Rattle.list.specs.Claims.{
+  CallOnGoodForm,
+  MoveOnGoodForm,
+  RefusedSetUpLeaves,
+  RefusedCallLeaves,
+  RefusedMoveLeaves,
+  RefusedListingLeaves,
+  ListedDiffer,
+}
 
 -- ---- on good form
 

@@ -19,7 +19,8 @@ use Rattle.list.specs.Engine.{badTable, setUpOf, callAsks, callOf, moveA
 
 -- an accepted set-up gives good form, whatever stood in the columns and the state
 abbrev pub SetUpIsGood : Type 0
-SetUpIsGood = (m : Machine) (parties : ℕ) → setUpOf m parties .answer ≡ passed → goodForm (setUpOf m parties .memory) ≡ true
+SetUpIsGood = (m : Machine) (parties : ℕ) → setUpOf m parties .answer ≡ passed →
+    goodForm (setUpOf m parties .memory) ≡ true
 
 -- the state of no party and no row, which a program has before its first set-up, has not good form, with any columns
 abbrev pub UnsetIsBad : Type 0
@@ -41,7 +42,8 @@ MoveKeeps = (m : Machine) (party : ℕ) (word : Word) → moveOf m party .answer
 abbrev pub CallOnGoodForm : Type 0
 CallOnGoodForm = (m : Machine) (party code key : ℕ) → badTable (m .table) ≡ false → goodForm m ≡ true →
     callOf m party code key
-    ≡ leaving (callAsks (m .state) (rowsIn (m .table)) party code) m (left (uncheckedCall m party (callNamed code) key) passed)
+    ≡ leaving (callAsks (m .state) (rowsIn (m .table)) party code) m
+    (left (uncheckedCall m party (callNamed code) key) passed)
 
 -- of the refusals of a move only 4, 8 and 9 are left, and an accepted move is the unchecked one
 abbrev pub MoveOnGoodForm : Type 0
@@ -68,7 +70,8 @@ RefusedCallLeaves = (m : Machine) (party code key number : ℕ) → callOf m par
     callOf m party code key .memory ≡ m
 
 abbrev pub RefusedMoveLeaves : Type 0
-RefusedMoveLeaves = (m : Machine) (party number : ℕ) → moveOf m party .answer ≡ refused number → moveOf m party .memory ≡ m
+RefusedMoveLeaves = (m : Machine) (party number : ℕ) → moveOf m party .answer ≡ refused number →
+    moveOf m party .memory ≡ m
 
 abbrev pub RefusedListingLeaves : Type 0
 RefusedListingLeaves = (m : Machine) (places : List ℕ) (number : ℕ) → listOf m places .answer ≡ refused number →

@@ -69,7 +69,8 @@ fn set_up_verdict(kind: usize, key: usize, next: usize, back: usize, parties: u3
     Verdict::Accepted
 }
 
-// Lays an empty list for so many parties into the columns, whatever stood there; refused, it hands the state back that came.
+// Lays an empty list for so many parties into the columns, whatever stood there; refused, it hands the state back that
+// came.
 pub fn set_up(
     kind: &mut [u8],
     key: &mut [u32],
@@ -78,7 +79,8 @@ pub fn set_up(
     came: State,
     parties: u32,
 ) -> After
-    ensures { λ r. ⌜ afterIs (after kind key next back) r ≡ setUpOf (machine (before kind key next back) came) parties ⌝ }
+    ensures { λ r. ⌜ afterIs (after kind key next back) r
+        ≡ setUpOf (machine (before kind key next back) came) parties ⌝ }
 {
     let verdict = set_up_verdict(kind.len(), key.len(), next.len(), back.len(), parties);
     match verdict {

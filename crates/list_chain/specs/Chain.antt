@@ -28,4 +28,5 @@ withKey false key later = later
 -- the live keys from a row on, in the order of the chain, until row 2
 unfoldable pub liveFrom : Table → (fuel row : ℕ) → List ℕ
 liveFrom t zero row = []
-liveFrom t (suc fuel) row = cond (eqb row tail) [] (withKey (isLive t row) (keyAt t row) (liveFrom t fuel (behind t row)))
+liveFrom t (suc fuel) row =
+    cond (eqb row tail) [] (withKey (isLive t row) (keyAt t row) (liveFrom t fuel (behind t row)))

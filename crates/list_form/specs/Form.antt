@@ -1,4 +1,5 @@
--- Good form as one test that computes: one definition for each thing that it asks, in the order of document 01, "Rows and parties".
+-- Good form as one test that computes: one definition for each thing that it asks, in the order of document 01, "Rows
+-- and parties".
 use mathlib.Core.List.{List}
 use mathlib.Core.Bool.{Bool, true, false, not, cond, _&&_, _||_}
 use Prim.Native.Nat.{ℕ, _+_}
@@ -71,7 +72,8 @@ goodRows t taken =
 -- every row number in it is below T
 abbrev pub rowsBelow : (taken : ℕ) → Party → Bool
 rowsBelow taken q =
-    ltb (q .p) taken && ltb (q .n) taken && ltb (q .c) taken && ltb (q .s) taken && ltb (q .r) taken && ltb (q .own) taken
+    ltb (q .p) taken && ltb (q .n) taken && ltb (q .c) taken
+    && ltb (q .s) taken && ltb (q .r) taken && ltb (q .own) taken
 
 -- which of p, n, c, s and r a place keeps (own has rules of its own)
 abbrev pub keptAt : Place → Kept
@@ -125,7 +127,8 @@ canReach (Look call key) = isContains call
 abbrev pub noneOrSpare : (own : ℕ) (unpublished : Bool) → Bool
 noneOrSpare own unpublished = cond unpublished (leb 4 own) (eqb own 0)
 
--- Own is at least 4 in every place of ADD and REMOVE: published in CLEAN and in a REMOVE's BACK, unpublished in MARK, REREAD and
+-- Own is at least 4 in every place of ADD and REMOVE: published in CLEAN and in a REMOVE's BACK, unpublished in MARK,
+-- REREAD and
 -- all of ADD, either in a REMOVE's WALK. An idle or looking party has none or a spare.
 abbrev pub ownFits : Place → (own : ℕ) (unpublished : Bool) → Bool
 ownFits Idle own unpublished = noneOrSpare own unpublished

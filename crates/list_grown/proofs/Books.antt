@@ -253,7 +253,8 @@ module _ (orphan : ℕ → Bool) (m : Machine) (v : Inv (viewOf orphan m)) (i : 
   does-booked (add-wins {k} d) a = made (AddSwap Add k) (idling (published q)) _ _ _ (addWon k) refl refl refl (omega arith) (omega arith) (rw (a .2 .hidden))
   does-booked (add-loses {k} n) a = fails (AddSwap Add k) (backing q Add k (q .p)) (omega (arith, bound (w .next (q .p)) (q .n) n)) (le-refl _) refl
   does-booked (mark-wins {k} d) a = made (Mark Remove k) (cleaning (published q) Remove k (q .p) (q .n) (q .s)) _ (q .c) (q .own) (markWon k) refl refl refl
-      (rw (getD-set-other (t .next) (q .c) (q .p) (q .own) 0 (λ d. omega (arith, ap (w .rank) d, a .0 .behind .low, a .1))) (omega arith)) (omega arith) (rw (a .2 .hidden))
+      (rw (getD-set-other (t .next) (q .c) (q .p) (q .own) 0 (λ d. omega (arith, ap (w .rank) d, a .0 .behind .low, a .1))) (omega arith)) (omega arith)
+      (rw (a .2 .hidden))
   does-booked (mark-loses {k} n) a =
       fails (Mark Remove k) (rereading q Remove k (q .p) (q .n) (q .c)) (omega (arith, bound (w .next (q .c)) (q .s) n)) (le-refl _) refl
   does-booked (rereads-late k) a = says _ _

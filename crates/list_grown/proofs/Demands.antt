@@ -44,7 +44,8 @@ module _ (came : Machine) (parties : ℕ) (history : History) (g : Grows came pa
   balanced =
       let taken : start came parties .state .taken ≡ 4 = ap (λ m. m .state .taken) (start-is came parties (g .set)) in
       rw (← taken, ← none-plus (countsOf (start came parties) history))
-      (balanced-along none parties (start came parties .state .taken) history (start came parties) noCounts (begins .healthy) (start-balanced none parties (start came parties) begins) (g .accepted))
+      (balanced-along none parties (start came parties .state .taken) history (start came parties) noCounts (begins .healthy)
+      (start-balanced none parties (start came parties) begins) (g .accepted))
 
 pub good-form-kept : GoodFormKept
 good-form-kept came parties history g = let s = healthy came parties history g in (s .form, s .fits)
@@ -55,7 +56,11 @@ lists-live-keys came parties history g =
     let m = grown came parties history in (
       λ places. listing-is none m (s .inv) (s .form) (s .fits) places,
       keys-rise none m (s .inv),
-      λ key. (λ is. live-row none m (s .inv) key (keys-live none m (s .inv) key is), λ row. live-keys none m (s .inv) key (row-live m (s .inv) (s .small) key row)),
+      λ key. (
+        λ is. live-row none m (s .inv) key (keys-live none m (s .inv) key is),
+        λ row. live-keys none m (s .inv) key
+            (row-live m (s .inv) (s .small) key row),
+      ),
     )
 
 pub demand2 : Demand2

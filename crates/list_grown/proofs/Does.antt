@@ -135,7 +135,8 @@ module _ (t : Table) (q : Party) where
   landed-add : (k : ℕ) → 3 + k ≤ rankAt t (q .c) → Does (Walk Add k) (landedAddOf t q k) read
   unfolding landedAddOf prepareOf
   landed-add k l = by-test
-      (λ b. Does (Walk Add k) (cond b (goesOn (skipping q Add k (q .p) (q .n) (nextAt t s))) (cond (equalsKey t (q .c) k) (answers q No) (prepareOf q Add k))) read)
+      (λ b. Does (Walk Add k) (cond b (goesOn (skipping q Add k (q .p) (q .n) (nextAt t s)))
+      (cond (equalsKey t (q .c) k) (answers q No) (prepareOf q Add k))) read)
       (isSplice t s) (λ b. add-skips l (splice-rank t s b))
       (λ b. by-test (λ e. Does (Walk Add k) (cond e (answers q No) (prepareOf q Add k)) read) (equalsKey t (q .c) k)
       (λ e. add-finds (equal k e) (other-rank t s b)) (λ e. add-ready l (other k e)))
@@ -199,7 +200,8 @@ module _ (t : Table) (q : Party) where
       (isSplice t s) (λ b. rereads-late (splice-rank t s b)) (λ b. rereads (other-rank t s b))
   does w (Clean Remove k) busy a = swap (q .p) (q .n) clean-wins clean-loses
   does w (Back call k) busy a = by-test
-      (λ b. Does (Back call k) (cond b (goesOn (backing q call k (backAt t (nextAt t (q .p))))) (goesOn (walking q call k (q .p) (nextAt t (q .p)) (nextAt t (q .p))))) read)
+      (λ b. Does (Back call k) (cond b (goesOn (backing q call k (backAt t (nextAt t (q .p)))))
+      (goesOn (walking q call k (q .p) (nextAt t (q .p)) (nextAt t (q .p))))) read)
       (isSplice t (nextAt t (q .p))) (λ b. backs (splice-rank t (nextAt t (q .p)) b)) (λ b. back-ends (other-rank t (nextAt t (q .p)) b))
   does w (Look Contains k) busy a =
       by-test (λ b. Does (Look Contains k) (cond b (lookOnOf t q Contains k) (landedContainsOf t q k)) read) (belowKey t (q .c) k)

@@ -128,7 +128,8 @@ module _ (m : Machine) (i key : ℕ) (fits : key < 4294967296) (g : Good m) (idl
   starts : (call : Call) → isContains call ≡ false → not (partyOf m i .unpublished) && eqb T (rowsIn (m .table)) ≡ false →
       Turn m i (started m i (startOf (m .state) (partyOf m i) call key)) called
   starts call is room = by-test
-      (λ u. partyOf m i .unpublished ≡ u → not u && eqb T (rowsIn (m .table)) ≡ false → Turn m i (begun m i (cond u (partyOf m i .own) T) (cond u T (oneMore 65535 T)) call key) called)
+      (λ u. partyOf m i .unpublished ≡ u → not u && eqb T (rowsIn (m .table)) ≡ false →
+      Turn m i (begun m i (cond u (partyOf m i .own) T) (cond u T (oneMore 65535 T)) call key) called)
       (partyOf m i .unpublished)
       (λ e hidden full. spares call key is fits idle hidden)
       (λ e shown full.
@@ -172,7 +173,8 @@ module _ (m : Machine) (i code key : ℕ) where
         known = leb-false (m .state .count) i (first .0);
         kept = call-keeps m i code key (ap (λ l. l .answer) is);
         still-fits = rw is (call-fits (callNamed code) (form .0));
-        turn = rw is (call-turn m i key fits (good m (form .1)) (idle-is (partyOf m i .place) (not-false idle (second .0))) (table-fits (m .table) (form .0) .4) (callNamed code) (fourth .0));
+        turn = rw is (call-turn m i key fits (good m (form .1)) (idle-is (partyOf m i .place) (not-false idle (second .0)))
+            (table-fits (m .table) (form .0) .4) (callNamed code) (fourth .0));
       }
 
 pub happens : (m : Machine) (event : Event) → accepts m event ≡ true → Happens m event

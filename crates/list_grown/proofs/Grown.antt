@@ -98,7 +98,8 @@ module _ (orphan : ℕ → Bool) (parties : ℕ) (m : Machine) (event : Event) (
       let deed = deedOf m event in
       let known : i < parties = omega (arith, h .known, s .count) in
       let stales = sum-step (staleOf m) (staleOf m′) (deedCounts deed .won) (deedCounts deed .lost) 0 i
-      (λ j n. rw (t .others j n) (others-stale (worldOf orphan m) (s .inv .good) (λ row. nextAt (m′ .table) row) (t .cell) (deedCounts deed .won) (t .but) (partyOf m j) (partyOf m j .place) (s .inv .holds j)))
+      (λ j n. rw (t .others j n) (others-stale (worldOf orphan m) (s .inv .good) (λ row. nextAt (m′ .table) row) (t .cell) (deedCounts deed .won) (t .but)
+      (partyOf m j) (partyOf m j .place) (s .inv .holds j)))
       (omega (arith, t .mine)) parties known in
       let owings = sum-step (owesOf m) (owesOf m′) 0 (deedCounts deed .won) (insOf deed + 2 * outsOf deed) i
       (λ j n. rw (t .others j n) (omega arith)) (t .pays) parties known in
@@ -142,7 +143,8 @@ module _ (orphan : ℕ → Bool) (parties : ℕ) where
       let this : accepts m first ≡ true = and-left (accepts m first) (acceptsAll (eventOf m first .memory) rest) ok in
       let m′ = eventOf m first .memory in
       rw (plus-plus c (eventCounts m first) (countsOf m′ rest)) at
-      (balanced-along taken rest m′ (plus c (eventCounts m first)) (healthy-turn orphan parties m first s this) (balanced-turn orphan parties m first s this taken c k)
+      (balanced-along taken rest m′ (plus c (eventCounts m first)) (healthy-turn orphan parties m first s this)
+      (balanced-turn orphan parties m first s this taken c k)
       (and-right (accepts m first) (acceptsAll m′ rest) ok))
 
   -- at a start nothing is stale, owed or held

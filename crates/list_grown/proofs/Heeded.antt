@@ -43,7 +43,8 @@ all-heeded m (first ∷ rest) fit =
     let fits : keyFits first ≡ true = and-left (keyFits first) (keysFit rest) fit in
     let later : keysFit rest ≡ true = and-right (keyFits first) (keysFit rest) fit in
     let m′ = eventOf m first .memory in
-    by-test (λ b. accepts m first ≡ b → (run m′ rest ≡ run m (cond b (first ∷ heeded m′ rest) (heeded m rest))) × (acceptsAll m (cond b (first ∷ heeded m′ rest) (heeded m rest)) ≡ true))
+    by-test (λ b. accepts m first ≡ b → (run m′ rest ≡ run m (cond b (first ∷ heeded m′ rest) (heeded m rest)))
+    × (acceptsAll m (cond b (first ∷ heeded m′ rest) (heeded m rest)) ≡ true))
     (accepts m first)
     (λ b is. let r = all-heeded m′ rest later in (r .0, and-both is (r .1)))
     (λ b is. let r = all-heeded m rest later in (rw (stays m first fits is) (r .0), r .1))

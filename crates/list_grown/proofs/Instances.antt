@@ -2,7 +2,24 @@
 -- Assumes nothing.
 use mathlib.Core.Path.{refl}
 use Rattle.list_rows.specs.Order.{rank}
-use Rattle.list_moves.specs.Moves.{prepareOf, onwardOf, landedAddOf, landedUnmarkedOf, landedMarkedOf, landedRemoveOf, landedContainsOf, walkOf, skipOf, addSwapOf, markOf, rereadOf, cleanOf, backOf, lookOnOf, lookOf}
+use Rattle.list_moves.specs.Moves.{
+  prepareOf,
+  onwardOf,
+  landedAddOf,
+  landedUnmarkedOf,
+  landedMarkedOf,
+  landedRemoveOf,
+  landedContainsOf,
+  walkOf,
+  skipOf,
+  addSwapOf,
+  markOf,
+  rereadOf,
+  cleanOf,
+  backOf,
+  lookOnOf,
+  lookOf,
+}
 use Rattle.list_unchecked.specs.Unchecked.{begunOf, uncheckedCall, uncheckedMove}
 use Rattle.list_form.specs.Form.{kindsFit, keysFit, linksFit, recordFits, partiesFit, goodRows, goodParties, goodForm}
 use Rattle.list_chain.specs.Chain.{rises, liveFrom}
@@ -15,7 +32,9 @@ use Rattle.list_grown.specs.Answers.{callsNot}
 use Rattle.list_grown.specs.Instances.{Instances}
 
 pub instances : Instances
-unfolding run acceptsAll countsOf callsNot setUpOf callOf moveOf rises liveFrom goodRows goodParties goodForm kindsFit keysFit linksFit recordFits partiesFit uncheckedCall begunOf uncheckedMove walkOf onwardOf landedAddOf landedUnmarkedOf landedMarkedOf landedRemoveOf landedContainsOf prepareOf skipOf addSwapOf markOf rereadOf cleanOf backOf lookOnOf lookOf rank has extra
+unfolding run acceptsAll countsOf callsNot setUpOf callOf moveOf rises liveFrom goodRows goodParties goodForm kindsFit keysFit linksFit recordFits partiesFit
+    uncheckedCall begunOf uncheckedMove walkOf onwardOf landedAddOf landedUnmarkedOf landedMarkedOf landedRemoveOf landedContainsOf prepareOf skipOf addSwapOf
+    markOf rereadOf cleanOf backOf lookOnOf lookOf rank has extra
 instances =
     record {
       run-of-01 = record { grows = record { set = refl; accepted = refl }; counts = refl };

@@ -87,7 +87,8 @@ module _ (orphan : ℕ → Bool) (m : Machine) where
     -- a row that does not count is no item, if it is open
     uncounted : (row : ℕ) → w .rank row < w .rank 2 → isLive t row ≡ false → Open w row → w .rank row ≤ w .rank 1
     uncounted row high is stands = by-test (λ up. w .rank row ≤ w .rank 1) (ltb (w .rank 1) (w .rank row))
-        (λ up. absurd (true≢false (sym (item-live t row (omega (arith, v .scale .0, ltb-true (w .rank 1) (w .rank row) up)) (omega (arith, v .scale .1)) stands) ∙ is)))
+        (λ up. absurd (true≢false (sym (item-live t row (omega (arith, v .scale .0, ltb-true (w .rank 1) (w .rank row) up))
+        (omega (arith, v .scale .1)) stands) ∙ is)))
         (λ up. ltb-false (w .rank 1) (w .rank row) up)
 
     -- a row before row 2, in front of the keys behind it
@@ -148,7 +149,8 @@ module _ (orphan : ℕ → Bool) (m : Machine) where
     -- of the refusals of a listing only 10 is left
     pub listing-is : goodForm m ≡ true → badTable (m .table) ≡ false → (places : List ℕ) →
         listOf m places
-        ≡ leaving (refusing (ltb (length places) (length (liveKeys m))) 10 passed) places (left (placesWith (liveKeys m) places) (accepted (length (liveKeys m))))
+        ≡ leaving (refusing (ltb (length places) (length (liveKeys m))) 10 passed) places
+        (left (placesWith (liveKeys m) places) (accepted (length (liveKeys m))))
     unfolding listOf
     listing-is good fits places = rw (fits, good, chain-rises)
 

@@ -157,7 +157,8 @@ module _ (orphan : ℕ → Bool) (m : Machine) where
       does-cares x (cut-again f b y) a p r s o (at-walk e u ρ c) = (o, at-clean e)
       does-cares x (cut-done f b n) a p r s o (at-walk e u ρ c) = absurd (n (ap (w .next) (track-end g e ρ c b) ∙ sym o))
       does-cares x (clean-wins {k} y) a p r s o (at-clean e) =
-          let past = swing-over g (clean-swings orphan m v z i h k (a .0) (a .1) (a .2) y) p s (omega (arith, a .0 .behind .low)) in absurd (omega (arith, a .1, past))
+          let past = swing-over g (clean-swings orphan m v z i h k (a .0) (a .1) (a .2) y) p s (omega (arith, a .0 .behind .low)) in
+          absurd (omega (arith, a .1, past))
       does-cares x (clean-loses n) a p r s o (at-clean e) = (o, at-back e)
       does-cares x (backs M) a p r s o (at-back e) = (o, at-back e)
       does-cares x (back-ends u) a p r s o (at-back e) =

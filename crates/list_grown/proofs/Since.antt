@@ -66,7 +66,8 @@ no-call i (calls j code key) rest quiet =
 no-call i (moves j) rest quiet = (by-row j i (λ e. rw e own) (λ n. other (λ e. n (sym e))), quiet)
 
 module _ (parties i : ℕ) (P : Machine → Event → Type 0) (Q : Machine → Type 0)
-    (keeps : (m : Machine) (event : Event) → Healthy none parties m → accepts m event ≡ true → NoCall i event → Q m → P m event ⊎ Q (eventOf m event .memory)) where
+    (keeps : (m : Machine) (event : Event) → Healthy none parties m → accepts m event ≡ true → NoCall i event → Q m →
+    P m event ⊎ Q (eventOf m event .memory)) where
   -- Q lasts until an event of which P holds
   until : (history : History) (m : Machine) → Healthy none parties m → AllAccepted m history → callsNot i history ≡ true → Q m →
       Sometime P m history ⊎ Q (run m history)
@@ -144,10 +145,12 @@ module _ (i k : ℕ) where
         Following (eventOf m event .memory)
     live-turn m event s e own live f still l =
         let t = f (busy parties i m s e) live in
-        track-turns none m (s .inv) i (inside none parties m event s e) (happens m event e .turn) (turn-of none parties m event s e) i (λ is. own-silent parties i m s e k t still) t l
+        track-turns none m (s .inv) i (inside none parties m event s e) (happens m event e .turn) (turn-of none parties m event s e) i
+        (λ is. own-silent parties i m s e k t still) t l
     live-turn m event s e (other n) live f still l =
         let turn = turn-of none parties m event s e in
-        track-turns none m (s .inv) (whose event) (inside none parties m event s e) (happens m event e .turn) turn i (λ is. absurd (n is)) (f (rw (turn .others i n) at still) live) l
+        track-turns none m (s .inv) (whose event) (inside none parties m event s e) (happens m event e .turn) turn i (λ is. absurd (n is))
+        (f (rw (turn .others i n) at still) live) l
 
     following-turn : (m : Machine) (event : Event) → Healthy none parties m → accepts m event ≡ true → NoCall i event → Following m →
         Absent m event ⊎ Following (eventOf m event .memory)

@@ -69,7 +69,8 @@ use Rattle.list_grown.proofs.Does.{
 
 -- rows other than the one written stay
 pub row-off : (t : Table) (x kind key next back z : ℕ) → z ≢ x →
-    (rankAt (withRow t x kind key next back) z ≡ rankAt t z) × (nextAt (withRow t x kind key next back) z ≡ nextAt t z) × (backAt (withRow t x kind key next back) z ≡ backAt t z)
+    (rankAt (withRow t x kind key next back) z ≡ rankAt t z) × (nextAt (withRow t x kind key next back) z ≡ nextAt t z)
+    × (backAt (withRow t x kind key next back) z ≡ backAt t z)
 row-off t x kind key next back z d = (
   rw (getD-set-other (t .kind) x z kind 0 d, getD-set-other (t .key) x z key 0 d),
   getD-set-other (t .next) x z next 0 d,
@@ -78,7 +79,8 @@ row-off t x kind key next back z d = (
 
 -- ---- a party's turn, by what it writes
 
-module _ (orphan : ℕ → Bool) (m : Machine) (v : Inv (viewOf orphan m)) (z : Rows (m .state .taken) (m .table)) (i : ℕ) (h : i < length (m .state .parties)) where
+module _ (orphan : ℕ → Bool) (m : Machine) (v : Inv (viewOf orphan m)) (z : Rows (m .state .taken) (m .table)) (i : ℕ)
+    (h : i < length (m .state .parties)) where
   abbrev w : World
   w = world (viewOf orphan m)
 
@@ -110,7 +112,13 @@ module _ (orphan : ℕ → Bool) (m : Machine) (v : Inv (viewOf orphan m)) (z : 
   quiet t q′ a b k mine =
       let e : getD (set (m .state .parties) i q′) i blank ≡ q′ = now q′ in
       inv-quiet v i
-      (record { others = λ j n. getD-set-other (m .state .parties) i j q′ blank n; grows = le-refl _; same = λ x. refl; holding = λ x d. inl (a x (rw e at d)) })
+      (record {
+        others = λ j n. getD-set-other (m .state .parties) i j q′ blank n;
+        grows = le-refl _;
+        same = λ x. refl;
+        holding = λ x d. inl
+            (a x (rw e at d));
+      })
       (λ x d. rw e (b x d)) (λ x c d. absurd (omega arith)) (λ x d. k x (λ c. d (rw e (b x c)))) (λ t. rw e (mine t))
 
   -- only the party changes
@@ -146,7 +154,8 @@ module _ (orphan : ℕ → Bool) (m : Machine) (v : Inv (viewOf orphan m)) (z : 
 
   -- the own row becomes a splice
   spliced : (k : ℕ) → OnWay w (3 + k) (q .p) (q .n) (q .c) → w .rank (q .c) ≡ 3 + k → Open w (q .c) → q .unpublished ≡ true
-      → Steady (viewOf orphan m) (became (withRow (m .table) (q .own) 3 0 (w .next (q .c)) (q .p)) (marking q Remove k (q .p) (q .n) (q .c) (w .next (q .c)))) still
+      → Steady (viewOf orphan m) (became (withRow (m .table) (q .own) 3 0 (w .next (q .c)) (q .p))
+      (marking q Remove k (q .p) (q .n) (q .c) (w .next (q .c)))) still
   unfolding rank
   spliced k W b o f =
       let t = m .table in
@@ -213,11 +222,14 @@ module _ (orphan : ℕ → Bool) (m : Machine) (v : Inv (viewOf orphan m)) (z : 
       (inv-add v s (add-swing g W b e (I .is) F (won-write v s) (won-mine v s (q .own) (I .hidden, refl)) (λ x d. just-own x (won-new v s x d))) F
       (rw (now (idling (published q))) tt))
 
-  module _ (k : ℕ) (W : OnWay w (3 + k) (q .p) (q .n) (q .r)) (b : 3 + k < w .rank (q .r)) (D : OwnMark w (q .own) (q .unpublished) (q .r)) (e : w .next (q .p) ≡ q .n) where
-    clean-win : Wins (viewOf orphan m) i (q .p) (q .r) (λ row. nextAt (link (m .table) (q .p) (q .r)) row) (λ j. getD (set (m .state .parties) i (idling q)) j blank)
+  module _ (k : ℕ) (W : OnWay w (3 + k) (q .p) (q .n) (q .r)) (b : 3 + k < w .rank (q .r)) (D : OwnMark w (q .own) (q .unpublished) (q .r))
+      (e : w .next (q .p) ≡ q .n) where
+    clean-win : Wins (viewOf orphan m) i (q .p) (q .r) (λ row. nextAt (link (m .table) (q .p) (q .r)) row)
+        (λ j. getD (set (m .state .parties) i (idling q)) j blank)
     clean-win = win (q .p) (q .r) (idling q) (D .shown) (W .behind .row) (rw e (W .row .pos))
 
-    pub clean-swings : Swing w (λ row. nextAt (link (m .table) (q .p) (q .r)) row) (Known orphan (m .state .taken) (λ j. getD (set (m .state .parties) i (idling q)) j blank)) (q .p) (q .r) (q .r)
+    pub clean-swings : Swing w (λ row. nextAt (link (m .table) (q .p) (q .r)) row)
+        (Known orphan (m .state .taken) (λ j. getD (set (m .state .parties) i (idling q)) j blank)) (q .p) (q .r) (q .r)
     clean-swings =
         clean-swing g W b e (won-write v clean-win) (λ x d. ⊎-elim (λ a. a) (λ a. absurd (true≢false (sym (a .0) ∙ D .shown))) (won-new v clean-win x d))
 
@@ -233,7 +245,8 @@ module _ (orphan : ℕ → Bool) (m : Machine) (v : Inv (viewOf orphan m)) (z : 
       let r = at-c g W .0 in
       let o : Open w (q .c) = rw e (ρ .pos) in
       let s = win (q .c) (q .own) q′ refl r o in
-      let a = mark-mark g W b (hidden (N .hidden)) (N .is) (n ∙ sym e) (N .behind) (won-write v s) (won-mine v s (q .own) (N .hidden, refl)) (λ x d. just-own x (won-new v s x d)) in
+      let a = mark-mark g W b (hidden (N .hidden)) (N .is) (n ∙ sym e) (N .behind) (won-write v s) (won-mine v s (q .own) (N .hidden, refl))
+      (λ x d. just-own x (won-new v s x d)) in
       let W′ = walking-ext g (mark-ext g a) W in
       let on-own = s .off (q .own) (λ d. hidden (N .hidden) (rw d (r .known))) in
       subst (λ K. Steady (viewOf orphan m) (became (link (m .table) (q .c) (q .own)) q′) (lose K (q .own))) b (inv-mark v s a (rw (now q′) (

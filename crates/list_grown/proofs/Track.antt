@@ -186,4 +186,5 @@ module _ (orphan : ℕ → Bool) (m : Machine) (v : Inv (viewOf orphan m)) (i : 
         Tracks w (partyOf m j) K → LiveRank (worldOf orphan m′) K → Tracks (worldOf orphan m′) (partyOf m′ j) K
     track-turns turn t j e s l = by-row j i
         (λ is. rw is (own-turn turn t (e is) (rw is at s) l))
-        (λ n. rw (t .others j n) (tracks-kept v (t .steady) (s .live) (stays (row-c (v .good) (s .seeks) (v .holds j)) (partyOf m j) (s .seeks) refl) (s .track) l))
+        (λ n. rw (t .others j n) (tracks-kept v (t .steady) (s .live) (stays (row-c (v .good) (s .seeks) (v .holds j)) (partyOf m j) (s .seeks) refl)
+        (s .track) l))

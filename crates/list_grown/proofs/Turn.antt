@@ -136,7 +136,8 @@ party-after m i h moved =
     rw (same-parties (moved .access) (withParty (m .state) i (moved .party))) (getD-set-same (m .state .parties) i (moved .party) blank h)
 
 -- below their limit the tallies count what the deed counts
-module _ (st : State) (below-moves : st .tallies .moves < 4294967295) (below-won : st .tallies .won < 4294967295) (below-lost : st .tallies .lost < 4294967295) where
+module _ (st : State) (below-moves : st .tallies .moves < 4294967295) (below-won : st .tallies .won < 4294967295)
+    (below-lost : st .tallies .lost < 4294967295) where
   deed-moves : (deed : Deed) → tallied (accessOf deed) st .tallies .moves ≡ st .tallies .moves + deedCounts deed .moves
   deed-moves called = omega arith
   deed-moves read = rw (lt-ltb (st .tallies .moves) 4294967295 below-moves)
@@ -180,7 +181,8 @@ item-rank : (t : Table) (x key next back : ℕ) → x < length (t .kind) → x <
 unfolding rank
 item-rank t x key next back a c = rw (getD-set-same (t .kind) x 2 0 a, getD-set-same (t .key) x key 0 c)
 
-module _ (orphan : ℕ → Bool) (m : Machine) (v : Inv (viewOf orphan m)) (z : Rows (m .state .taken) (m .table)) (i : ℕ) (h : i < length (m .state .parties)) where
+module _ (orphan : ℕ → Bool) (m : Machine) (v : Inv (viewOf orphan m)) (z : Rows (m .state .taken) (m .table)) (i : ℕ)
+    (h : i < length (m .state .parties)) where
   abbrev w : World
   w = worldOf orphan m
 
@@ -225,7 +227,8 @@ module _ (orphan : ℕ → Bool) (m : Machine) (v : Inv (viewOf orphan m)) (z : 
       (λ t. rw e (start-at _ call key T is (walking-ext (v .good) t (at-start key fits)) (item-rank (m .table) T key 0 0 room (omega (arith, z)))))
 
   call-look : (key : ℕ) → key < 4294967296 → Steady (viewOf orphan m) (viewOf orphan (asking m i key)) still
-  call-look key fits = reads-only orphan m v z i h (looking (partyOf m i) Contains key 1) (λ x d. d) (λ x d. d) (key-of v key fits, v .good .one, omega (arith, v .good .order), tt)
+  call-look key fits = reads-only orphan m v z i h (looking (partyOf m i) Contains key 1) (λ x d. d) (λ x d. d)
+      (key-of v key fits, v .good .one, omega (arith, v .good .order), tt)
 
   -- a call that makes row x, which is not published, an item of party i
   called-with : (x taken : ℕ) (call : Call) (key : ℕ) → key < 4294967296 → (w .Pub x → ⊥) → partyOf m i .place ≡ Idle → taken + heldOf m i ≡ T + 1 →
@@ -233,7 +236,11 @@ module _ (orphan : ℕ → Bool) (m : Machine) (v : Inv (viewOf orphan m)) (z : 
   called-with x taken call key fits new idle rows steady = record {
     steady = steady;
     others = λ j n. off (starting call key x) j n;
-    mine = rw (now (starting call key x)) (omega (arith, miss-same (nextAt (begun m i x taken call key .table) 0) 1 (kept 0 (v .good .head .known) ∙ next-zero)));
+    mine = rw (now (starting call key x)) (omega (
+      arith,
+      miss-same (nextAt (begun m i x taken call key .table) 0) 1
+          (kept 0 (v .good .head .known) ∙ next-zero),
+    ));
     cell = 0;
     but = λ y k. inl (kept y k);
     pays = rw (now (starting call key x), start-owes call key) (omega arith);
@@ -268,7 +275,8 @@ module _ (orphan : ℕ → Bool) (m : Machine) (v : Inv (viewOf orphan m)) (z : 
 
   -- ---- a move
 
-  moved-on : (moved : Moved) (deed : Deed) → m .state .tallies .moves < 4294967295 → m .state .tallies .won < 4294967295 → m .state .tallies .lost < 4294967295 →
+  moved-on : (moved : Moved) (deed : Deed) → m .state .tallies .moves < 4294967295 → m .state .tallies .won < 4294967295 →
+      m .state .tallies .lost < 4294967295 →
       Booked w (m .table) (partyOf m i) (partyOf m i .place) moved deed →
       Steady (viewOf orphan m) (viewOf orphan (carried m i moved .after)) (changeOf deed (partyOf m i .own)) → Turned orphan m i (carried m i moved .after) deed
   moved-on moved deed a b c books steady =
@@ -290,7 +298,8 @@ module _ (orphan : ℕ → Bool) (m : Machine) (v : Inv (viewOf orphan m)) (z : 
         lost = rw (books .access) (deed-lost st a b c deed);
       }
 
-  pub turned : {m′ : Machine} {deed : Deed} → m .state .tallies .moves < 4294967295 → m .state .tallies .won < 4294967295 → m .state .tallies .lost < 4294967295 →
+  pub turned : {m′ : Machine} {deed : Deed} → m .state .tallies .moves < 4294967295 → m .state .tallies .won < 4294967295 →
+      m .state .tallies .lost < 4294967295 →
       Turn m i m′ deed → Turned orphan m i m′ deed
   turned a b c (moves busy) =
       let it = does (m .table) (partyOf m i) w (partyOf m i .place) busy (v .holds i) in

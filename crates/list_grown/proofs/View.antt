@@ -98,7 +98,11 @@ module _ {σ σ′ : View} (v : Inv σ) (i : ℕ) (m : Alone σ σ′ i) where
       inside j x h = ⊎-elim (λ a. omega (arith, v .inside j x a, m .grows)) (λ b. omega (arith, b)) (was j x h)
 
       lost : (x : ℕ) → σ′ .orphan x ≡ true → (x < σ′ .taken) × ((j : ℕ) → HoldsRow (σ′ .party j) x → ⊥)
-      lost x e = let l = v .lost x (sym (m .same x) ∙ e) in (omega (arith, l .0, m .grows), λ j h. ⊎-elim (λ a. l .1 j a) (λ b. omega (arith, l .0, b .1)) (was j x h))
+      lost x e = let l = v .lost x (sym (m .same x) ∙ e) in (
+        omega (arith, l .0, m .grows),
+        λ j h. ⊎-elim (λ a. l .1 j a) (λ b. omega (arith, l .0, b .1))
+            (was j x h),
+      )
 
       apart : (k j x : ℕ) → HoldsRow (σ′ .party k) x → HoldsRow (σ′ .party j) x → k ≡ j
       apart k j x a b = go (was k x a) (was j x b)
@@ -141,7 +145,8 @@ module _ {σ σ′ : View} (v : Inv σ) (i : ℕ) (m : Alone σ σ′ i) where
       live = same-effect (v .good) quiet-same;
       news = λ y h p. inl (quiet-same .only y h);
       marks = λ x h k. let p = quiet-same .only x h in inl (p, rw (same-next (v .good) quiet-same x p) at k);
-      inv = inv-move (same-good (v .good) quiet-same) t (λ j x n h. stay x (λ k. ⊎-elim (λ a. n (v .apart j i x h a)) (λ b. omega (arith, v .inside j x h, b)) (m .holding x k))) (mine t);
+      inv = inv-move (same-good (v .good) quiet-same) t (λ j x n h. stay x
+          (λ k. ⊎-elim (λ a. n (v .apart j i x h a)) (λ b. omega (arith, v .inside j x h, b)) (m .holding x k))) (mine t);
     }
 
 -- a swap that party i wins: it writes the next of p and then holds no row
@@ -171,7 +176,8 @@ module _ {σ : View} {i p u : ℕ} {f : ℕ → ℕ} {ps : ℕ → Party} (v : I
 
   -- what is published now was so before, or was held by i
   pub won-new : (x : ℕ) → Known (σ .orphan) (σ .taken) ps x → world σ .Pub x ⊎ HoldsRow (σ .party i) x
-  won-new x h = by-row x (σ .party i .own) (λ e. flag e (σ .party i .unpublished) refl) (λ n. inl (h .0, λ j k. by-row j i (λ e. n (sym (rw e at k .1))) (λ d. h .1 j (rw (s .others j d) k)), h .2))
+  won-new x h = by-row x (σ .party i .own) (λ e. flag e (σ .party i .unpublished) refl)
+      (λ n. inl (h .0, λ j k. by-row j i (λ e. n (sym (rw e at k .1))) (λ d. h .1 j (rw (s .others j d) k)), h .2))
     where
       flag : x ≡ σ .party i .own → (b : Bool) → σ .party i .unpublished ≡ b → world σ .Pub x ⊎ HoldsRow (σ .party i) x
       flag e true q = inr (q, sym e)

@@ -1,4 +1,5 @@
--- What is proved of every list grown from set-up: demands 2 and 3, and what they stand on. docs/PROOFS.md says each in words.
+-- What is proved of every list grown from set-up: demands 2 and 3, and what they stand on. docs/PROOFS.md says each in
+-- words.
 use mathlib.Core.Path.{_≡_}
 use mathlib.Core.List.{List}
 use mathlib.Core.Bool.{true, false}
@@ -23,7 +24,8 @@ use Rattle.list_grown.specs.Deeds.{Deed, called, read, addWon, markWon, 
 
 -- they leave no trace: a history with keys of 32 bits leaves the machine that its accepted events alone leave
 abbrev pub Heeded : Type 0
-Heeded = (m : Machine) (history : History) → keysFit history ≡ true → (run m history ≡ run m (heeded m history)) × AllAccepted m (heeded m history)
+Heeded = (m : Machine) (history : History) → keysFit history ≡ true →
+    (run m history ≡ run m (heeded m history)) × AllAccepted m (heeded m history)
 
 -- ---- good form
 
@@ -53,8 +55,10 @@ pub record LiveRow (m : Machine) (key : ℕ) : Type 0 where
 abbrev pub ListsLiveKeys : Type 0
 ListsLiveKeys = (came : Machine) (parties : ℕ) (history : History) → Grows came parties history →
     let m = grown came parties history in
+    let count = length (liveKeys m) in
     ((places : List ℕ) → listOf m places
-    ≡ leaving (refusing (ltb (length places) (length (liveKeys m))) 10 passed) places (left (placesWith (liveKeys m) places) (accepted (length (liveKeys m)))))
+    ≡ leaving (refusing (ltb (length places) count) 10 passed) places
+    (left (placesWith (liveKeys m) places) (accepted count)))
     × Rising (liveKeys m)
     × ((key : ℕ) → (has key (liveKeys m) ≡ true) ↔ LiveRow m key)
 
@@ -69,7 +73,8 @@ Changes (markWon key) before after = (has key before ≡ true) × (after ≡ wit
 Changes cleanWon before after = after ≡ before
 Changes lost before after = after ≡ before
 
--- every accepted event after every accepted history: a won add swap brings in its key alone, a won mark swap takes out its key alone
+-- every accepted event after every accepted history: a won add swap brings in its key alone, a won mark swap takes out
+-- its key alone
 abbrev pub Demand2 : Type 0
 Demand2 = (came : Machine) (parties : ℕ) (history : History) (event : Event) → Grows came parties history →
     let m = grown came parties history in

@@ -1,1 +1,2 @@
-// What holds of every list that calls and moves have grown from a fresh set-up: no code; the statements are in specs/, their proofs in proofs/.
+// What holds of every list that calls and moves have grown from a fresh set-up: no code; the statements are in specs/,
+// their proofs in proofs/.

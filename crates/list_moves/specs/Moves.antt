@@ -1,4 +1,5 @@
--- The moves, one definition for each place (document 01, "The moves"). What p, n, c, s, r and own are: list_party/src/lib.rt.
+-- The moves, one definition for each place (document 01, "The moves"). What p, n, c, s, r and own are:
+-- list_party/src/lib.rt.
 use mathlib.Core.Bool.{not, cond, _&&_, _||_}
 use Prim.Native.Nat.{ℕ}
 use lib.Dec.{eqb}
@@ -58,7 +59,8 @@ module _ (t : Table) (q : Party) where
       (goesOn (goesTo q (Walk call key) (record { p = q .p; n = q .n; c = nextAt t s; s = 0; r = q .r })))
       (goesOn (goesTo q (Walk call key) (record { p = q .c; n = s; c = s; s = 0; r = q .r })))
 
-  -- An ADD has landed. When s is a splice, c := its next, go to SKIP; else if c equals the key, answer no; else prepare.
+  -- An ADD has landed. When s is a splice, c := its next, go to SKIP; else if c equals the key, answer no; else
+  -- prepare.
   unfoldable pub landedAddOf : ℕ → Moved
   landedAddOf key = let s = s-of-c in
       cond (isSplice t s)
@@ -73,7 +75,8 @@ module _ (t : Table) (q : Party) where
   landedUnmarkedOf key = let s = s-of-c in
       cond (not (equalsKey t (q .c) key) || isSplice t s)
       (answers q No)
-      (readies (goesTo q (Mark Remove key) (record { p = q .p; n = q .n; c = q .c; s = s; r = 0 })) (Splice (q .own) s (q .p)))
+      (readies (goesTo q (Mark Remove key) (record { p = q .p; n = q .n; c = q .c; s = s; r = 0 }))
+      (Splice (q .own) s (q .p)))
 
   -- A REMOVE that is already marked has landed. If s is not own, somebody has cleaned up: answer yes; else go to CLEAN.
   unfoldable pub landedMarkedOf : ℕ → Moved

@@ -6,7 +6,17 @@ use Rattle.calls.specs.declared.Call.the-variants.{Contains}
 use Rattle.calls.specs.declared.Asked.{Asked}
 use Rattle.calls.specs.Calls.{asked}
 use Rattle.list_party.specs.declared.Place.{Place}
-use Rattle.list_party.specs.declared.Place.the-variants.{Idle, Walk, Skip, AddSwap, Mark, Reread, Clean, Back, Look}
+use Rattle.list_party.specs.declared.Place.the-variants.{
+  Idle,
+  Walk,
+  Skip,
+  AddSwap,
+  Mark,
+  Reread,
+  Clean,
+  Back,
+  Look,
+}
 use Rattle.list_party.specs.declared.Values.{Values}
 use Rattle.list_party.specs.declared.Party.{Party}
 
@@ -60,7 +70,8 @@ isIdle (Clean call key) = false
 isIdle (Back call key) = false
 isIdle (Look call key) = false
 
--- what a party was asked; an idle one was asked nothing, contains 0 stands in for it, and no move of an idle party answers
+-- what a party was asked; an idle one was asked nothing, contains 0 stands in for it, and no move of an idle party
+-- answers
 abbrev pub askedAt : Place → Asked
 askedAt Idle = asked Contains 0
 askedAt (Walk call key) = asked call key

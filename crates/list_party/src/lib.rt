@@ -178,7 +178,8 @@ pub fn one_taken(taken: u16) -> u16
 }
 
 impl State {
-    // So many parties at rest and so many rows taken, nothing counted yet. Of no party and no row: what a program has before its set-up.
+    // So many parties at rest and so many rows taken, nothing counted yet. Of no party and no row: what a program has
+    // before its set-up.
     pub fn resting(parties: u8, taken: u16) -> State
         ensures { λ r. ⌜ r ≡ restingState parties taken ⌝ }
     {

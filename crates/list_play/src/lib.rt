@@ -140,7 +140,8 @@ pub fn party_in(line: Line) -> u32
     }
 }
 
-// A line of a schedule of this byte order: its call or its step. A line without either changes nothing. Does not test for 1 and 3.
+// A line of a schedule of this byte order: its call or its step. A line without either changes nothing. Does not test
+// for 1 and 3.
 pub fn play_line(
     kind: &mut [u8],
     key: &mut [u32],

@@ -2,7 +2,24 @@
 -- Assumes nothing.
 use mathlib.Core.Path.{refl}
 use Rattle.list_rows.specs.Order.{rank}
-use Rattle.list_moves.specs.Moves.{prepareOf, onwardOf, landedAddOf, landedUnmarkedOf, landedMarkedOf, landedRemoveOf, landedContainsOf, walkOf, skipOf, addSwapOf, markOf, rereadOf, cleanOf, backOf, lookOnOf, lookOf}
+use Rattle.list_moves.specs.Moves.{
+  prepareOf,
+  onwardOf,
+  landedAddOf,
+  landedUnmarkedOf,
+  landedMarkedOf,
+  landedRemoveOf,
+  landedContainsOf,
+  walkOf,
+  skipOf,
+  addSwapOf,
+  markOf,
+  rereadOf,
+  cleanOf,
+  backOf,
+  lookOnOf,
+  lookOf,
+}
 use Rattle.list_unchecked.specs.Unchecked.{begunOf, uncheckedCall, uncheckedMove}
 use Rattle.list_form.specs.Form.{kindsFit, keysFit, linksFit, recordFits, partiesFit, goodRows, goodParties, goodForm}
 use Rattle.list_chain.specs.Chain.{rises, liveFrom}
@@ -21,7 +38,11 @@ use Rattle.list_replay.specs.Output.{lineSays, saysFrom, lastOf, closing
 use Rattle.list_replay.specs.Examples.{Examples}
 
 pub examples : Examples
-unfolding word placeAfter digitOf nextDigit hexOf pairAt fieldAt digits askedText answerLine refusedLine heard replyLine numberLine keyLines tallyLines verbAt callLine stepLine endLine lineAt rowsOf partiesLine nodesLine orderLine firstLost headOf mostLines bodyFrom endBad lastBad badFrom firstBad loaded lineOf lineSays saysFrom lastOf closing outputBy setUpOf callOf moveOf rises liveFrom goodRows goodParties goodForm kindsFit keysFit linksFit recordFits partiesFit uncheckedCall begunOf uncheckedMove walkOf onwardOf landedAddOf landedUnmarkedOf landedMarkedOf landedRemoveOf landedContainsOf prepareOf skipOf addSwapOf markOf rereadOf cleanOf backOf lookOnOf lookOf rank numberIn fieldTests loadOf field.fieldAt
+unfolding word placeAfter digitOf nextDigit hexOf pairAt fieldAt digits askedText answerLine refusedLine heard replyLine numberLine keyLines tallyLines verbAt
+    callLine stepLine endLine lineAt rowsOf partiesLine nodesLine orderLine firstLost headOf mostLines bodyFrom endBad lastBad badFrom firstBad loaded lineOf
+    lineSays saysFrom lastOf closing outputBy setUpOf callOf moveOf rises liveFrom goodRows goodParties goodForm kindsFit keysFit linksFit recordFits partiesFit
+    uncheckedCall begunOf uncheckedMove walkOf onwardOf landedAddOf landedUnmarkedOf landedMarkedOf landedRemoveOf landedContainsOf prepareOf skipOf addSwapOf
+    markOf rereadOf cleanOf backOf lookOnOf lookOf rank numberIn fieldTests loadOf field.fieldAt
 examples = record {
   runs = record {
     empty = refl;

@@ -12,7 +12,8 @@ use Rattle.script.specs.Head.{headOf}
 use Rattle.script.specs.Body.{bodyOf, firstBad}
 use Rattle.list_replay.specs.Output.{plain, lastOf, outputBy, outputOf}
 
--- calls and moves without tests of the form, and the listing, print what checked calls and moves and the live keys would
+-- calls and moves without tests of the form, and the listing, print what checked calls and moves and the live keys
+-- would
 abbrev pub SameOutput : Type 0
 SameOutput = (text : List ℕ) → outputBy plain text ≡ outputOf text
 
@@ -26,13 +27,15 @@ endOf text =
 abbrev pub ListingStands : Type 0
 ListingStands =
     (text places : List ℕ) → length text ≤ 65536 → firstBad text (headOf text) ≡ 0 → 4096 ≤ length places →
-    listOf (endOf text) places ≡ left (placesWith (liveKeys (endOf text)) places) (accepted (length (liveKeys (endOf text))))
+    let keys = liveKeys (endOf text) in
+    listOf (endOf text) places ≡ left (placesWith keys places) (accepted (length keys))
 
 -- no text has a longer output
 abbrev pub OutputFits : Type 0
 OutputFits = (text : List ℕ) → length (outputOf text) ≤ 786432
 
--- so in a buffer of that size the whole output stands first, what was behind it is as before, and the answer is its length
+-- so in a buffer of that size the whole output stands first, what was behind it is as before, and the answer is its
+-- length
 abbrev pub WholeOutput : Type 0
 WholeOutput = (text out : List ℕ) (after : Page) → 786432 ≤ length out → Wrote (page out 0) (outputOf text) after →
     after ≡ page (outputOf text ++ drop (length (outputOf text)) out) (length (outputOf text))

@@ -1,5 +1,7 @@
--- Whole texts and their whole outputs, computed by the checker: refusals, both byte orders, and bad texts of many kinds. (The run of document 01: `worked`.)
+-- Whole texts and their whole outputs, computed by the checker: refusals, both byte orders, and bad texts of many
+-- kinds. (The run of document 01: `examples`.)
 use mathlib.Core.Path.{_≡_}
+use mathlib.Core.List.{_++_}
 use Prim.Native.String.{String}
 use Rattle.logic.specs.Quoted.{bytes}
 use Rattle.script.specs.Head.{headOf}
@@ -12,9 +14,11 @@ Gives text output = outputOf (bytes text) ≡ bytes output
 -- the smallest text, and one that meets a refusal 4, 5, 7 and 8 in turn
 pub record Runs : Type 0 where
   pub empty : Gives "parties=1\nnodes=4\norder=big\nend=0\n" "moves=0\nwon=0\nlost=0\ntaken=4\n"
-  pub refusals : Gives
-      "parties=1\nnodes=4\norder=big\ncall=1 add 00000001\ncall=0 contains FFFFFFfe\ncall=0 add 00000001\nstep=0\nstep=0\ncall=0 remove 00000001\nstep=0\nend=7\n"
-      "refused=4 4\nrefused=6 5\nanswer=0 contains 4294967294 no\nrefused=9 7\nrefused=10 8\nmoves=2\nwon=0\nlost=0\ntaken=4\n"
+  pub refusals : outputOf
+      (bytes "parties=1\nnodes=4\norder=big\ncall=1 add 00000001\ncall=0 contains FFFFFFfe\ncall=0 add 00000001\n"
+      ++ bytes "step=0\nstep=0\ncall=0 remove 00000001\nstep=0\nend=7\n")
+      ≡ bytes "refused=4 4\nrefused=6 5\nanswer=0 contains 4294967294 no\nrefused=9 7\nrefused=10 8\n"
+      ++ bytes "moves=2\nwon=0\nlost=0\ntaken=4\n"
   -- what 0 nodes stand for
   pub nodes-0 : headOf (bytes "parties=1\nnodes=0\norder=big\nend=0\n") .nodes ≡ 64
   -- the same field in both orders

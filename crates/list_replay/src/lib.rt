@@ -67,7 +67,8 @@ fn run_line(
     }
 }
 
-// One line for each key that a listing gives. (In a list that a schedule has grown it is never refused: `ListingStands`.)
+// One line for each key that a listing gives. (In a list that a schedule has grown it is never refused:
+// `ListingStands`.)
 fn put_live(
     kind: &[u8],
     key: &[u32],
@@ -116,7 +117,8 @@ fn run_body(
     out: &mut [u8],
 ) -> usize
     ensures { λ r. ⌜ Puts out 0
-        (played plain (head .order) (machine (before kind key next back) start) 0 (bodyOf (now (text .entry)) head)) r ⌝ }
+        (played plain (head .order) (machine (before kind key next back) start) 0
+        (bodyOf (now (text .entry)) head)) r ⌝ }
 {
     let order = head.order;
     let mut state = start;
@@ -151,8 +153,9 @@ fn run_in(
     out: &mut [u8],
 ) -> usize
     ensures { λ r. ⌜ Puts out 0
-        (played plain (head .order) (setUpOf (machine (before kind key next back) (restingState 0 0)) (head .parties) .memory)
-        0 (bodyOf (now (text .entry)) head)) r ⌝ }
+        (played plain (head .order)
+        (setUpOf (machine (before kind key next back) (restingState 0 0)) (head .parties) .memory) 0
+        (bodyOf (now (text .entry)) head)) r ⌝ }
 {
     let ready = set_up(kind, key, next, back, State::resting(0, 0), head.parties);
     let start = ready.state;
@@ -181,7 +184,8 @@ fn run_new(text: &[u8], head: Head, out: &mut [u8]) -> usize
     )
 }
 
-// Leaves the output of a schedule's text at the start of the buffer, as far as it has room, and answers the place behind what was put.
+// Leaves the output of a schedule's text at the start of the buffer, as far as it has room, and answers the place
+// behind what was put.
 pub fn replay(text: &[u8], out: &mut [u8]) -> usize
     ensures { λ r. ⌜ Puts out 0 (outputOf (now (text .entry))) r ⌝ }
 {

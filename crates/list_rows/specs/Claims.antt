@@ -6,7 +6,8 @@ use Prim.Native.Nat.{ℕ, _<_}
 use Rattle.list_rows.specs.Table.{Table, keyAt, isItem}
 use Rattle.list_rows.specs.Order.{rank, equalsKey}
 
--- a splice, row 0, row 1, an item with any legal key, row 2, row 3: each below the next, whatever stands in the key column of the others
+-- a splice, row 0, row 1, an item with any legal key, row 2, row 3: each below the next, whatever stands in the key
+-- column of the others
 abbrev pub Ordered : Type 0
 Ordered = (any row key : ℕ) → key < 4294967296 →
     (rank 3 any row < rank 1 any 0)
@@ -21,4 +22,5 @@ ItemsByKey = (key row other-key other : ℕ) → (rank 2 key row < rank 2 other-
 
 -- only an item can equal a key
 abbrev pub OnlyItemsEqual : Type 0
-OnlyItemsEqual = (t : Table) (row key : ℕ) → key < 4294967296 → equalsKey t row key ≡ true → (isItem t row ≡ true) × (keyAt t row ≡ key)
+OnlyItemsEqual = (t : Table) (row key : ℕ) → key < 4294967296 → equalsKey t row key ≡ true →
+    (isItem t row ≡ true) × (keyAt t row ≡ key)

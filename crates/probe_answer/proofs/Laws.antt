@@ -105,7 +105,8 @@ at-most bytes is fit =
 
 pub rooms-lent : (bytes : List ℕ) (total : ℕ) {asked : Question} → asked ≡ questionIn bytes → AtMost total asked →
     roomsFit bytes
-    (tab (take (asked .kinds) (replicate total 0)) (take (asked .keys) (replicate total 0)) (take (asked .nexts) (replicate total 0)) (take (asked .backs) (replicate total 0)))
+    (tab (take (asked .kinds) (replicate total 0)) (take (asked .keys) (replicate total 0)) (take (asked .nexts) (replicate total 0))
+    (take (asked .backs) (replicate total 0)))
     ≡ true
 rooms-lent bytes total {asked} is most =
     rooms-fit bytes _

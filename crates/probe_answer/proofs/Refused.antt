@@ -33,7 +33,8 @@ module _ (m : Machine) (places : List ℕ) (number : ℕ) where
       let stops = refused-by (setUpOf m parties .answer) number is in
       rw (stops, refused-set-up-leaves m parties (suc number) stops)
 
-  call-untouched : (party code key : ℕ) → doneShown places (callOf m party code key) .number ≡ suc number → doneShown places (callOf m party code key) ≡ untouched m places number
+  call-untouched : (party code key : ℕ) → doneShown places (callOf m party code key) .number ≡ suc number → doneShown places (callOf m party code key)
+      ≡ untouched m places number
   unfolding doneShown
   call-untouched party code key is =
       let stops = refused-by (callOf m party code key .answer) number is in

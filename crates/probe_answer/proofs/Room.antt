@@ -27,7 +27,24 @@ use Rattle.calls.specs.Calls.{callNamed}
 use Rattle.list.proofs.Laws.{past-form, table-fits, past-set-up}
 use Rattle.probe_layout.specs.Bytes.{low, byteAt, twoAt, fourAt}
 use Rattle.probe_layout.specs.Records.{recordAt}
-use Rattle.probe_layout.specs.Layout.{whatIn, partyIn, codeIn, keyIn, placesIn, kindsIn, keysIn, nextsIn, backsIn, keysFrom, nextsFrom, backsFrom, tableIn, stateIn, machineIn, fits}
+use Rattle.probe_layout.specs.Layout.{
+  whatIn,
+  partyIn,
+  codeIn,
+  keyIn,
+  placesIn,
+  kindsIn,
+  keysIn,
+  nextsIn,
+  backsIn,
+  keysFrom,
+  nextsFrom,
+  backsFrom,
+  tableIn,
+  stateIn,
+  machineIn,
+  fits,
+}
 use Rattle.probe_answer.specs.Probe.{Seen, unwritten, doneShown, moveShown, listShown, seenBy, seenOf, seenBytes, probeOf}
 use Rattle.probe_answer.specs.Claims.{OutputFits}
 use Rattle.probe_layout.proofs.Fitting.{fit-of}
@@ -174,7 +191,8 @@ unfolding seenOf tableIn stateIn
 fitting-long bytes fit =
     let f = fit-of bytes fit in
     let sixteen = long-each (recordAt bytes) 20 16 43 in
-    let long = seen-long (machineIn bytes) (unwritten (placesIn bytes)) sixteen (seenOf bytes) (seen-sized (machineIn bytes) (unwritten (placesIn bytes)) sixteen (whatIn bytes) (partyIn bytes) (codeIn bytes) (keyIn bytes)) in
+    let long = seen-long (machineIn bytes) (unwritten (placesIn bytes)) sixteen (seenOf bytes)
+    (seen-sized (machineIn bytes) (unwritten (placesIn bytes)) sixteen (whatIn bytes) (partyIn bytes) (codeIn bytes) (keyIn bytes)) in
     rw (← probe-fits bytes fit)
     (omega (
       arith,

@@ -94,7 +94,8 @@ rooms-fit bytes t rooms =
     )
 
 -- the tests as the code makes them
-pub rooms-told : (bytes : List ℕ) (t : Table) {kinds keys nexts backs : ℕ} → kinds ≡ kindsIn bytes → keys ≡ keysIn bytes → nexts ≡ nextsIn bytes → backs ≡ backsIn bytes →
+pub rooms-told : (bytes : List ℕ) (t : Table) {kinds keys nexts backs : ℕ} → kinds ≡ kindsIn bytes → keys ≡ keysIn bytes → nexts ≡ nextsIn bytes → backs
+    ≡ backsIn bytes →
     eqb (length (t .kind)) kinds && eqb (length (t .key)) keys && eqb (length (t .next)) nexts && eqb (length (t .back)) backs ≡ roomsFit bytes t
 unfolding roomsFit
 rooms-told bytes t kinds keys nexts backs = rw (kinds, keys, nexts, backs)

@@ -18,7 +18,21 @@ use Rattle.calls.specs.Calls.{callNamed, codeOf}
 use Rattle.calls.proofs.Told.{code-of-its-call}
 use Rattle.probe_layout.specs.Bytes.{byteAt, twoAt, fourAt, each, low, oneByOne}
 use Rattle.probe_layout.specs.Records.{placeNumbered, placeBytes, recordAt, recordFits, recordBytes}
-use Rattle.probe_layout.specs.Layout.{kindsIn, keysIn, nextsIn, backsIn, keysFrom, nextsFrom, backsFrom, endOf, tableIn, stateIn, machineIn, stateBytes, machineBytes}
+use Rattle.probe_layout.specs.Layout.{
+  kindsIn,
+  keysIn,
+  nextsIn,
+  backsIn,
+  keysFrom,
+  nextsFrom,
+  backsFrom,
+  endOf,
+  tableIn,
+  stateIn,
+  machineIn,
+  stateBytes,
+  machineBytes,
+}
 use Rattle.probe_layout.specs.Claims.{NumbersAreFields, ReadIsWritten}
 use Rattle.probe_layout.proofs.Fitting.{Fit, fit-of}
 use Rattle.probe_layout.proofs.Laws.{one-byte}
@@ -73,7 +87,8 @@ module _ (bytes : List ℕ) where
 
     four : (at to : ℕ) → at + 4 ≡ to → to ≤ length bytes → Stands bytes at (low 4 (fourAt bytes at)) to
     four at to on inside =
-        named (low-four (byteAt bytes at) (byteAt bytes (at + 1)) (byteAt bytes (at + 2)) (byteAt bytes (at + 2 + 1)) (all at) (all (at + 1)) (all (at + 2)) (all (at + 2 + 1)))
+        named (low-four (byteAt bytes at) (byteAt bytes (at + 1)) (byteAt bytes (at + 2)) (byteAt bytes (at + 2 + 1)) (all at) (all (at + 1)) (all (at + 2))
+        (all (at + 2 + 1)))
         (join (pair at (at + 2) refl (omega arith)) (pair (at + 2) to (omega arith) inside))
 
 -- ---- columns and party records
@@ -112,7 +127,8 @@ place-back (suc (suc (suc (suc zero)))) call key known calls idle = ap (λ (n : 
 place-back (suc (suc (suc (suc (suc zero))))) call key known calls idle = ap (λ (n : ℕ). 5 ∷ n ∷ low 4 key) (sym (code-of-its-call call calls))
 place-back (suc (suc (suc (suc (suc (suc zero)))))) call key known calls idle = ap (λ (n : ℕ). 6 ∷ n ∷ low 4 key) (sym (code-of-its-call call calls))
 place-back (suc (suc (suc (suc (suc (suc (suc zero))))))) call key known calls idle = ap (λ (n : ℕ). 7 ∷ n ∷ low 4 key) (sym (code-of-its-call call calls))
-place-back (suc (suc (suc (suc (suc (suc (suc (suc zero)))))))) call key known calls idle = ap (λ (n : ℕ). 8 ∷ n ∷ low 4 key) (sym (code-of-its-call call calls))
+place-back (suc (suc (suc (suc (suc (suc (suc (suc zero)))))))) call key known calls idle = ap (λ (n : ℕ). 8 ∷ n ∷ low 4 key)
+    (sym (code-of-its-call call calls))
 place-back (suc (suc (suc (suc (suc (suc (suc (suc (suc more))))))))) call key known calls idle = absurd (omega arith)
 
 flag-back : (flag : ℕ) → flag ≤ 1 → flag ≡ cond (eqb flag 1) 1 0
@@ -151,7 +167,8 @@ module _ (bytes : List ℕ) (all : Bytes bytes) (at : ℕ) where
       let none : byteAt bytes at ≡ 0 → (byteAt bytes (at + 1) ≡ 0) × (fourAt bytes (at + 2) ≡ 0) =
       λ is. let both = else-both idle no-call no-key (and-right (known && calls) (not idle || (no-call && no-key)) to-idle) (rw is) in
       (eqb-true (byteAt bytes (at + 1)) 0 (both .0), eqb-true (fourAt bytes (at + 2)) 0 (both .1)) in
-      let place = place-stands (omega arith) (leb-true (byteAt bytes at) 8 (and-left known calls to-calls)) (leb-true (byteAt bytes (at + 1)) 2 (and-right known calls to-calls)) none in
+      let place = place-stands (omega arith) (leb-true (byteAt bytes at) 8 (and-left known calls to-calls))
+      (leb-true (byteAt bytes (at + 1)) 2 (and-right known calls to-calls)) none in
       let numbers = join (join (join (join (join (join place
       (two bytes all (at + 6) (at + 8) (omega arith) (omega arith)))
       (two bytes all (at + 8) (at + 10) (omega arith) (omega arith)))
@@ -160,7 +177,8 @@ module _ (bytes : List ℕ) (all : Bytes bytes) (at : ℕ) where
       (two bytes all (at + 14) (at + 16) (omega arith) (omega arith)))
       (two bytes all (at + 16) (at + 18) (omega arith) (omega arith)) in
       let ends = join (one bytes (at + 18) (at + 19) (omega arith) (omega arith)) (one bytes (at + 19) (at + 20) (omega arith) inside) in
-      join numbers (named (ap (λ (n : ℕ). n ∷ byteAt bytes (at + 19) ∷ []) (flag-back (byteAt bytes (at + 18)) small-flag) ∙ ap (λ (n : ℕ). cond (eqb (byteAt bytes (at + 18)) 1) 1 0 ∷ n ∷ []) zero-last) ends)
+      join numbers (named (ap (λ (n : ℕ). n ∷ byteAt bytes (at + 19) ∷ []) (flag-back (byteAt bytes (at + 18)) small-flag)
+      ∙ ap (λ (n : ℕ). cond (eqb (byteAt bytes (at + 18)) 1) 1 0 ∷ n ∷ []) zero-last) ends)
 
 -- ---- the whole
 
@@ -208,7 +226,8 @@ module _ (bytes : List ℕ) (all : Bytes bytes) (fit : Fit bytes) where
 pub read-is-written : ReadIsWritten
 read-is-written bytes all fit =
     let f = fit-of bytes fit in
-    sym (append-nil (machineBytes (machineIn bytes))) ∙ ap (λ (r : List ℕ). machineBytes (machineIn bytes) ++ r) (sym (ap (λ (n : ℕ). drop n bytes) (sym (f .long)) ∙ drop-length bytes))
+    sym (append-nil (machineBytes (machineIn bytes))) ∙ ap (λ (r : List ℕ). machineBytes (machineIn bytes) ++ r)
+    (sym (ap (λ (n : ℕ). drop n bytes) (sym (f .long)) ∙ drop-length bytes))
     ∙ machine-stands bytes all f .path
 
 -- ---- numbers are fields

@@ -14,7 +14,8 @@ pub use write::put_u32s;
 ghost use mathlib.Core.Path.{_≡_};
 ghost use Rattle.probe_layout.specs.Layout.{questionIn};
 
-// The numbers before the state: which question, of which party, with which code and key, how many places, and the lengths of the columns.
+// The numbers before the state: which question, of which party, with which code and key, how many places, and the
+// lengths of the columns.
 pub struct Question {
     pub what: u8,
     pub party: u32,

@@ -36,7 +36,8 @@ unfolding partiesFit
 one-fails c =
     let m = c .before .before .before .before in
     let st = m .before .args .state in
-    sym (every-fails (test st) 16 (m .loop .i) (omega arith) (told st (m .loop .i) (c .before .before .party-at .ensures) (c .before .party-fits .ensures) ∙ not-true _ (c .if1 .taken)))
+    sym (every-fails (test st) 16 (m .loop .i) (omega arith) (told st (m .loop .i) (c .before .before .party-at .ensures) (c .before .party-fits .ensures)
+    ∙ not-true _ (c .if1 .taken)))
 
 again : tie.Need-loop-again Inv-loop μ-loop
 again c =

@@ -14,8 +14,17 @@ returns c =
     let c6 = c5 .before in
     let c7 = c6 .before in
     let c8 = c7 .before in
-    rw
-    (c .two-at5 .ensures, c1 .two-at4 .ensures, c2 .two-at3 .ensures, c3 .two-at2 .ensures, c4 .two-at .ensures, c5 .four-at3 .ensures, c6 .four-at2 .ensures, c7 .four-at .ensures, c8 .byte-at .ensures)
+    rw (
+      c .two-at5 .ensures,
+      c1 .two-at4 .ensures,
+      c2 .two-at3 .ensures,
+      c3 .two-at2 .ensures,
+      c4 .two-at .ensures,
+      c5 .four-at3 .ensures,
+      c6 .four-at2 .ensures,
+      c7 .four-at .ensures,
+      c8 .byte-at .ensures,
+    )
 
 pub question-in-spec : {M : Type 1} → statement M
 question-in-spec =

@@ -17,8 +17,18 @@ returns c =
     let c7 = c6 .before in
     let c8 = c7 .before in
     let c9 = c8 .before in
-    rw
-    (c .records-fit .ensures, c1 .byte-at .ensures, c2 .four-at2 .ensures, c3 .four-at .ensures, c4 .end-of .ensures, c5 .two-at5 .ensures, c6 .two-at4 .ensures, c7 .two-at3 .ensures, c8 .two-at2 .ensures, c9 .two-at .ensures)
+    rw (
+      c .records-fit .ensures,
+      c1 .byte-at .ensures,
+      c2 .four-at2 .ensures,
+      c3 .four-at .ensures,
+      c4 .end-of .ensures,
+      c5 .two-at5 .ensures,
+      c6 .two-at4 .ensures,
+      c7 .two-at3 .ensures,
+      c8 .two-at2 .ensures,
+      c9 .two-at .ensures,
+    )
 
 pub fits-spec : {M : Type 1} → statement M
 fits-spec =

@@ -38,7 +38,9 @@ returns-9 : tie.Need-returns-9
 returns-9 c =
     let c1 = c .before in
     let r = c .match .rest in past-back (c1 .args .number) _ _
-    (passed 7 _ (passed 6 _ (passed 5 _ (passed 4 _ (passed 3 _ (passed 2 _ (passed 1 _ (passed 0 _ (omega arith) (r .0 .0 .0 .0 .0 .0 .0 .1)) (r .0 .0 .0 .0 .0 .0 .1)) (r .0 .0 .0 .0 .0 .1)) (r .0 .0 .0 .0 .1)) (r .0 .0 .0 .1)) (r .0 .0 .1)) (r .0 .1)) (r .1))
+    (passed 7 _ (passed 6 _ (passed 5 _ (passed 4 _ (passed 3 _ (passed 2 _
+    (passed 1 _ (passed 0 _ (omega arith) (r .0 .0 .0 .0 .0 .0 .0 .1)) (r .0 .0 .0 .0 .0 .0 .1)) (r .0 .0 .0 .0 .0 .1)) (r .0 .0 .0 .0 .1)) (r .0 .0 .0 .1))
+    (r .0 .0 .1)) (r .0 .1)) (r .1))
 
 pub place-numbered-spec : {M : Type 1} → statement M
 place-numbered-spec =

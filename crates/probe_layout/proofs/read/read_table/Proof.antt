@@ -28,7 +28,8 @@ returns c =
     let c23 = c17 .before .before .before .before .before .before in
     c8 .read-columns .ensures
     ∙ table-read (c23 .args .bytes .now) _
-    (sym (rooms-told (c23 .args .bytes .now) _ (c17 .two-at .ensures) (c16 .two-at2 .ensures) (c15 .two-at3 .ensures) (c14 .two-at4 .ensures)) ∙ c13 .if1 .taken)
+    (sym (rooms-told (c23 .args .bytes .now) _ (c17 .two-at .ensures) (c16 .two-at2 .ensures) (c15 .two-at3 .ensures) (c14 .two-at4 .ensures))
+    ∙ c13 .if1 .taken)
 
 returns-2 : tie.Need-returns-2
 returns-2 c =

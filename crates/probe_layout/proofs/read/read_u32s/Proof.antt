@@ -25,8 +25,12 @@ loop-holds c =
 loop-again : tie.Need-loop-again Inv-loop μ-loop
 loop-again c =
     let c2 = c .before .before in
-    let c5 = c2 .before .before .before in
-    (omega arith, rw length-set (c2 .loop .inv .1), read-one (fourAt (c5 .args .bytes .now)) 4 (c5 .args .column .now) (c5 .args .from) (c2 .loop .i) (c2 .loop .inv .2) (c .four-at .ensures) (omega arith))
+    let c5 = c2 .before .before .before in (
+      omega arith,
+      rw length-set (c2 .loop .inv .1),
+      read-one (fourAt (c5 .args .bytes .now)) 4 (c5 .args .column .now) (c5 .args .from) (c2 .loop .i)
+          (c2 .loop .inv .2) (c .four-at .ensures) (omega arith),
+    )
 
 returns : tie.Need-returns Inv-loop μ-loop
 returns c =

@@ -26,8 +26,12 @@ loop-holds c =
 loop-again : tie.Need-loop-again Inv-loop μ-loop
 loop-again c =
     let c2 = c .before .before in
-    let c5 = c2 .before .before .before in
-    (omega arith, rw length-set (c2 .loop .inv .1), read-one (recordAt (c5 .args .bytes .now)) 20 _ 43 (c2 .loop .i) (c2 .loop .inv .2) (c .record-at .ensures) (omega arith))
+    let c5 = c2 .before .before .before in (
+      omega arith,
+      rw length-set (c2 .loop .inv .1),
+      read-one (recordAt (c5 .args .bytes .now)) 20 _ 43 (c2 .loop .i) (c2 .loop .inv .2) (c .record-at .ensures)
+          (omega arith),
+    )
 
 returns : tie.Need-returns Inv-loop μ-loop
 unfolding stateIn

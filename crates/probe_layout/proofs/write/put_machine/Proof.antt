@@ -34,7 +34,8 @@ returns c =
     let c30 = c26 .before .before .before .before in
     let c34 = c30 .before .before .before .before in
     on
-    (on (on (on (on (on (on (on (c34 .put-two .ensures) (c30 .put-two2 .ensures)) (c26 .put-two3 .ensures)) (c22 .put-two4 .ensures)) (c18 .put-state .ensures)) (c14 .put-u8s .ensures)) (c10 .put-u32s .ensures)) (c6 .put-u16s .ensures))
+    (on (on (on (on (on (on (on (c34 .put-two .ensures) (c30 .put-two2 .ensures)) (c26 .put-two3 .ensures)) (c22 .put-two4 .ensures))
+    (c18 .put-state .ensures)) (c14 .put-u8s .ensures)) (c10 .put-u32s .ensures)) (c6 .put-u16s .ensures))
     (c2 .put-u16s2 .ensures)
 
 pub put-machine-spec : {M : Type 1} → statement M

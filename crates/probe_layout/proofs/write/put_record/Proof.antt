@@ -32,7 +32,8 @@ returns c =
     let c31 = c26 .before .before .before .before .before in
     let c36 = c31 .before .before .before .before .before in
     on
-    (on (on (on (on (on (on (c36 .put-place .ensures) (c31 .put-two .ensures)) (c26 .put-two2 .ensures)) (c21 .put-two3 .ensures)) (c16 .put-two4 .ensures)) (c11 .put-two5 .ensures)) (c6 .put-two6 .ensures))
+    (on (on (on (on (on (on (c36 .put-place .ensures) (c31 .put-two .ensures)) (c26 .put-two2 .ensures)) (c21 .put-two3 .ensures)) (c16 .put-two4 .ensures))
+    (c11 .put-two5 .ensures)) (c6 .put-two6 .ensures))
     (c2 .put-flag .ensures)
 
 pub put-record-spec : {M : Type 1} → statement M

@@ -32,8 +32,12 @@ loop-again c =
     let c2 = c .before .before in
     let c6 = c2 .before .before .before .before in
     let c8 = c6 .before .before in
-    let long : length (c8 .args .t3 .parties) ≡ 16 = search (needs, long-mapped) in
-    (omega arith, omega arith, λ x w. c6 .loop .inv .2 x (told (on (c2 .put-record .ensures) w) (row-on recordBytes (c8 .args .t3 .parties) (c6 .loop .i) blank (omega arith))))
+    let long : length (c8 .args .t3 .parties) ≡ 16 = search (needs, long-mapped) in (
+      omega arith,
+      omega arith,
+      λ x w. c6 .loop .inv .2 x (told (on (c2 .put-record .ensures) w)
+          (row-on recordBytes (c8 .args .t3 .parties) (c6 .loop .i) blank (omega arith))),
+    )
 
 returns : tie.Need-returns Inv-loop μ-loop
 returns c =

@@ -33,8 +33,12 @@ loop-again : tie.Need-loop-again Inv-loop μ-loop
 loop-again c =
     let c2 = c .before .before in
     let c6 = c2 .before .before .before .before in
-    let c9 = c6 .before .before .before in
-    (omega arith, omega arith, λ x w. c6 .loop .inv .2 x (told (on (c2 .put-two .ensures) w) (row-on (low 2) (c9 .args .column .now) (c6 .loop .i) 0 (omega arith))))
+    let c9 = c6 .before .before .before in (
+      omega arith,
+      omega arith,
+      λ x w. c6 .loop .inv .2 x (told (on (c2 .put-two .ensures) w)
+          (row-on (low 2) (c9 .args .column .now) (c6 .loop .i) 0 (omega arith))),
+    )
 
 returns : tie.Need-returns Inv-loop μ-loop
 returns c =
