@@ -90,11 +90,14 @@ listed keys = left keys (accepted (length keys))
 abbrev pub alone : (party code key number : ℕ) → List Event
 alone party code key number = calls party code key ∷ replicate number (moves party)
 
+-- so many moves, and no swap among them
+abbrev pub onlyMoves : (number : ℕ) → Tallies
+onlyMoves number = record { moves = number; won = 0; lost = 0 }
+
 -- nothing is said so many times
 abbrev pub silent : (number : ℕ) → List (Answer Word)
 silent number = replicate number going
 
--- the answers to a call and then its moves: nothing is said, by the call nor by a move, until the move of this number
--- says it
+-- the answers to a call and its moves: nothing is said, by the call or by a move, until the move of this number says it
 abbrev pub by-move : (number : ℕ) → Word → List (Answer Word)
 by-move number word = silent number ++ (accepted word ∷ [])

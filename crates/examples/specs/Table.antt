@@ -8,7 +8,7 @@ use Rattle.list_party.specs.declared.Place.the-variants.{Idle, Walk, Mark, Rere
 use Rattle.calls.specs.Words.{yes, no}
 use Rattle.list.specs.Run.{calls, moves, going}
 use Rattle.logic.specs.Quoted.{bytes}
-use Rattle.examples.specs.Example.{Stage, Example, field, list, schedule, AllHold, listed, alone, silent, by-move}
+use Rattle.examples.specs.Example.{Standing, Stage, Example, field, list, schedule, AllHold, listed, alone, onlyMoves, silent, by-move}
 
 -- the codes of the calls
 abbrev add : ℕ
@@ -22,19 +22,18 @@ contains = 2
 
 -- ---- stages that several examples share
 
+-- key 5 is in, by three moves of which one won a swap; the list has these parties
+abbrev withFive : List Place → Standing
+withFive parties = record {
+  places = parties;
+  listing = listed (5 ∷ []);
+  taken = 5;
+  tallies = record { moves = 3; won = 1; lost = 0 };
+}
+
 -- party 0 adds 5 to an empty list; the list has these parties, all at rest
 abbrev fiveAdded : List Place → Stage
-fiveAdded parties =
-    record {
-      events = alone 0 add 5 3;
-      answers = by-move 3 yes;
-      after = record {
-        places = parties;
-        listing = listed (5 ∷ []);
-        taken = 5;
-        tallies = record { moves = 3; won = 1; lost = 0 };
-      };
-    }
+fiveAdded parties = record { events = alone 0 add 5 3; answers = by-move 3 yes; after = withFive parties }
 
 -- of two parties, party 0 has marked 5, which thereby is gone, and stands at CLEAN
 abbrev fiveMarked : List Stage
@@ -64,12 +63,7 @@ E2 = list 8 1
     (record {
       events = [];
       answers = [];
-      after = record {
-        places = Idle ∷ [];
-        listing = listed [];
-        taken = 4;
-        tallies = record { moves = 0; won = 0; lost = 0 };
-      };
+      after = record { places = Idle ∷ []; listing = listed []; taken = 4; tallies = onlyMoves 0 };
     }
     ∷ [])
 
@@ -77,30 +71,19 @@ E2 = list 8 1
 abbrev pub E3 : Example
 E3 = list 8 1 (fiveAdded (Idle ∷ []) ∷ [])
 
--- a REMOVE on an empty list is answered no by its second move; the party's next ADD takes no row: it has the REMOVE's,
--- and T
--- stays 5
+-- a REMOVE on an empty list is answered no by its second move; the party's next ADD takes no row: it has the
+-- REMOVE's, and T stays 5
 abbrev pub E4 : Example
 E4 = list 8 1
     (record {
       events = alone 0 remove 5 2;
       answers = by-move 2 no;
-      after = record {
-        places = Idle ∷ [];
-        listing = listed [];
-        taken = 5;
-        tallies = record { moves = 2; won = 0; lost = 0 };
-      };
+      after = record { places = Idle ∷ []; listing = listed []; taken = 5; tallies = onlyMoves 2 };
     }
     ∷ record {
       events = calls 0 add 7 ∷ [];
       answers = going ∷ [];
-      after = record {
-        places = Walk Add 7 ∷ [];
-        listing = listed [];
-        taken = 5;
-        tallies = record { moves = 2; won = 0; lost = 0 };
-      };
+      after = record { places = Walk Add 7 ∷ []; listing = listed []; taken = 5; tallies = onlyMoves 2 };
     }
     ∷ record {
       events = moves 0 ∷ moves 0 ∷ moves 0 ∷ [];
@@ -120,12 +103,7 @@ E5 = list 8 1
     (record {
       events = alone 0 contains 5 2;
       answers = by-move 2 no;
-      after = record {
-        places = Idle ∷ [];
-        listing = listed [];
-        taken = 4;
-        tallies = record { moves = 2; won = 0; lost = 0 };
-      };
+      after = record { places = Idle ∷ []; listing = listed []; taken = 4; tallies = onlyMoves 2 };
     }
     ∷ [])
 
@@ -161,22 +139,21 @@ E7 = list 12 2
     }
     ∷ []))
 
+-- 5 is in again, while the party that marked it still stands at CLEAN
+abbrev fiveAgain : Standing
+fiveAgain = record {
+  places = Clean Remove 5 ∷ Idle ∷ [];
+  listing = listed (5 ∷ []);
+  taken = 7;
+  tallies = record { moves = 10; won = 3; lost = 0 };
+}
+
 -- from the state of E7 before its CONTAINS an ADD of 5 by the other party is answered yes by its fourth move; the
--- remover then
--- loses CLEAN, and two moves later is answered yes
+-- remover then loses CLEAN, and two moves later is answered yes
 abbrev pub E8 : Example
 E8 = list 12 2
     (fiveMarked
-    ++ (record {
-      events = alone 1 add 5 4;
-      answers = by-move 4 yes;
-      after = record {
-        places = Clean Remove 5 ∷ Idle ∷ [];
-        listing = listed (5 ∷ []);
-        taken = 7;
-        tallies = record { moves = 10; won = 3; lost = 0 };
-      };
-    }
+    ++ (record { events = alone 1 add 5 4; answers = by-move 4 yes; after = fiveAgain }
     ∷ record {
       events = moves 0 ∷ [];
       answers = going ∷ [];

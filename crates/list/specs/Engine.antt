@@ -1,5 +1,5 @@
--- The entry points: what each leaves and answers on every input (document 01, "Rows and parties", "The moves", "Refusal
--- numbers").
+-- The entry points: what each leaves and answers on every input
+-- (document 01, "Rows and parties", "The moves", "Refusal numbers").
 use Prim.{Unit}
 use mathlib.Core.List.{List, _++_}
 use mathlib.Core.Bool.{Bool, not, _&&_, _||_}
@@ -41,8 +41,7 @@ badParties parties = eqb parties 0 || ltb 16 parties
 abbrev pub setUpTests : Table → ℕ → Tests
 setUpTests t parties = refusing (badTable t) 1 (refusing (badParties parties) 2 passed)
 
--- an empty list in the columns, all parties idle without a spare, T at 4 and all tallies at 0, whatever stood there
--- before
+-- whatever came: an empty list in the columns, all parties idle without a spare, T at 4 and all tallies at 0
 unfoldable pub setUpOf : Machine → (parties : ℕ) → Left Machine (Unit {0})
 setUpOf m parties =
     leaving (setUpTests (m .table) parties) m

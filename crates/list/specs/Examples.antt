@@ -1,5 +1,4 @@
--- Refusals, the ends of their ranges and listings in numbers, computed by the checker. (E1 to E11 of document 01:
--- `examples`.)
+-- Refusals, the ends of their ranges and listings in numbers, computed by the checker. (E1 to E11: crate `examples`.)
 use mathlib.Core.Path.{_≡_}
 use mathlib.Core.List.{List, [], _∷_}
 use Prim.Native.Nat.{ℕ}
@@ -13,9 +12,7 @@ use Rattle.list_party.specs.State.{restingState, withTallies}
 use Rattle.list.specs.Engine.{setUpOf, listOf}
 use Rattle.list.specs.Run.{calls, moves, run, replies, going, unset, fresh}
 
--- refusals by their numbers: no such party, an idle party's move, a busy party's call, an unknown call, no row left,
--- none
--- needed
+-- by their numbers: no such party, an idle party's move, an unknown call, a busy party's call; no row left, none needed
 abbrev pub Refusals : Type 0
 Refusals =
     (replies (fresh 5 1) (calls 1 0 5 ∷ moves 1 ∷ moves 0 ∷ calls 0 3 5 ∷ calls 0 0 5 ∷ calls 0 3 5 ∷ [])
@@ -38,8 +35,7 @@ LastMove =
     (replies (spent 16777215) (moves 0 ∷ moves 0 ∷ []) ≡ going ∷ refused 9 ∷ [])
     × (run (spent 16777215) (moves 0 ∷ moves 0 ∷ []) .state .tallies .moves ≡ 16777216)
 
--- the ends of both ranges, columns of different lengths, 1 before 2 where both apply, and a list that a refused set-up
--- leaves
+-- the ends of both ranges, columns of different lengths, 1 before 2, and a list at work that a refused set-up leaves
 abbrev pub SetUps : Type 0
 SetUps =
     (setUpOf (unset 4) 16 .answer ≡ passed)
@@ -60,8 +56,7 @@ pair first second =
     machine (tab kinds keys nexts (zeros 6)) (restingState 1 6)
 
 -- good form says nothing of sorting, but a listing has to rise: equal neighbours are refused with 3; two places are
--- enough for
--- two keys, one is not, and a third is not written
+-- enough for two keys, one is not, and a third is not written
 abbrev pub Listings : Type 0
 Listings =
     (goodForm (pair 5 5) ≡ true)

@@ -1,5 +1,4 @@
--- What the entry points promise: set-up, call, move and listing with their refusals in order, and answers in the
--- document's terms.
+-- What the entry points promise: set-up, call, move, listing, refusals in order, answers in the document's terms.
 pub mod Engine
 pub mod Answers
 pub mod Claims

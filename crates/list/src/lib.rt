@@ -69,8 +69,8 @@ fn set_up_verdict(kind: usize, key: usize, next: usize, back: usize, parties: u3
     Verdict::Accepted
 }
 
-// Lays an empty list for so many parties into the columns, whatever stood there; refused, it hands the state back that
-// came.
+// Lays an empty list for so many parties into the columns, whatever stood there; refused, it hands back the state that
+// came, and the columns are as they were.
 pub fn set_up(
     kind: &mut [u8],
     key: &mut [u32],

@@ -1,5 +1,4 @@
--- Good form as one test that computes: one definition for each thing that it asks, in the order of document 01, "Rows
--- and parties".
+-- Good form as one test that computes: a definition for each thing it asks, in order (document 01, "Rows and parties").
 use mathlib.Core.List.{List}
 use mathlib.Core.Bool.{Bool, true, false, not, cond, _&&_, _||_}
 use Prim.Native.Nat.{ℕ, _+_}
@@ -128,8 +127,7 @@ abbrev pub noneOrSpare : (own : ℕ) (unpublished : Bool) → Bool
 noneOrSpare own unpublished = cond unpublished (leb 4 own) (eqb own 0)
 
 -- Own is at least 4 in every place of ADD and REMOVE: published in CLEAN and in a REMOVE's BACK, unpublished in MARK,
--- REREAD and
--- all of ADD, either in a REMOVE's WALK. An idle or looking party has none or a spare.
+-- REREAD and all of ADD, either in a REMOVE's WALK. An idle or looking party has none or a spare.
 abbrev pub ownFits : Place → (own : ℕ) (unpublished : Bool) → Bool
 ownFits Idle own unpublished = noneOrSpare own unpublished
 ownFits (Walk call key) own unpublished = leb 4 own && (unpublished || not (isAdd call))

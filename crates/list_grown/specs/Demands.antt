@@ -1,5 +1,4 @@
--- What is proved of every list grown from set-up: demands 2 and 3, and what they stand on. docs/PROOFS.md says each in
--- words.
+-- What is proved of every list grown from set-up: demands 2 and 3, and what they stand on. (In words: docs/PROOFS.md.)
 use mathlib.Core.Path.{_≡_}
 use mathlib.Core.List.{List}
 use mathlib.Core.Bool.{true, false}

@@ -76,8 +76,7 @@ pub record Leaves (history : History) (keys : List ℕ) (counts : Counts) : Type
   pub chain-then : chainRises (grown (unset 16) 2 history) ≡ true
   pub counts-then : countsOf (start (unset 16) 2) history ≡ counts
 
--- an ADD of a key that is being taken out leads its row on to what stands behind the removed row, not to the removed
--- row
+-- an ADD of a key that is being taken out leads its row on to what stands behind the removed row, not to that row
 abbrev pub overRemoved : History
 overRemoved =
     calls 0 0 5 ∷ moves 0 ∷ moves 0 ∷ moves 0 ∷ calls 0 1 5 ∷ moves 0 ∷ moves 0 ∷ moves 0 ∷ calls 1 0 5

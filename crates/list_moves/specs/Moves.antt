@@ -1,5 +1,4 @@
--- The moves, one definition for each place (document 01, "The moves"). What p, n, c, s, r and own are:
--- list_party/src/lib.rt.
+-- The moves, a definition for each place (document 01, "The moves"). What p, n, c, s, r, own are: list_party/src/lib.rt.
 use mathlib.Core.Bool.{not, cond, _&&_, _||_}
 use Prim.Native.Nat.{ℕ}
 use lib.Dec.{eqb}
@@ -40,6 +39,10 @@ swapOf t swap won said lost =
     (record { party = won; said = said; access = Won; write = Link (swap .row) (swap .to) })
     (record { party = lost; said = Nothing; access = Lost; write = Untouched })
 
+-- after a lost ADDSWAP or CLEAN: go to BACK, with p, and with r if the REMOVE is marked
+abbrev pub toBack : Party → Call → ℕ → Party
+toBack q call key = goesTo q (Back call key) (record { p = q .p; n = 0; c = 0; s = 0; r = q .r })
+
 -- to prepare: next of own := c; go to ADDSWAP
 unfoldable pub prepareOf : Party → Call → ℕ → Moved
 prepareOf q call key =
@@ -59,8 +62,7 @@ module _ (t : Table) (q : Party) where
       (goesOn (goesTo q (Walk call key) (record { p = q .p; n = q .n; c = nextAt t s; s = 0; r = q .r })))
       (goesOn (goesTo q (Walk call key) (record { p = q .c; n = s; c = s; s = 0; r = q .r })))
 
-  -- An ADD has landed. When s is a splice, c := its next, go to SKIP; else if c equals the key, answer no; else
-  -- prepare.
+  -- An ADD has landed. When s is a splice, c := its next, go to SKIP; else c equals the key, answer no; else prepare.
   unfoldable pub landedAddOf : ℕ → Moved
   landedAddOf key = let s = s-of-c in
       cond (isSplice t s)
@@ -116,8 +118,7 @@ module _ (t : Table) (q : Party) where
   unfoldable pub addSwapOf : Call → ℕ → Moved
   addSwapOf call key =
       swapOf t (record { row = q .p; from = q .n; to = q .own })
-      (idling (published q)) Yes
-      (goesTo q (Back call key) (record { p = q .p; n = 0; c = 0; s = 0; r = q .r }))
+      (idling (published q)) Yes (toBack q call key)
 
   -- MARK: next of c from s to own. Won: own is published, r := s, go to CLEAN. Lost: go to REREAD.
   unfoldable pub markOf : Call → ℕ → Moved
@@ -137,8 +138,7 @@ module _ (t : Table) (q : Party) where
   unfoldable pub cleanOf : Call → ℕ → Moved
   cleanOf call key =
       swapOf t (record { row = q .p; from = q .n; to = q .r })
-      (idling q) Yes
-      (goesTo q (Back call key) (record { p = q .p; n = 0; c = 0; s = 0; r = q .r }))
+      (idling q) Yes (toBack q call key)
 
   -- BACK: n := next of p. When n is a splice, p := its back, stay; else c := n, go to WALK.
   unfoldable pub backOf : Call → ℕ → Moved

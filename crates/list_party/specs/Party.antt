@@ -70,8 +70,7 @@ isIdle (Clean call key) = false
 isIdle (Back call key) = false
 isIdle (Look call key) = false
 
--- what a party was asked; an idle one was asked nothing, contains 0 stands in for it, and no move of an idle party
--- answers
+-- what a party was asked; for an idle one, which was asked nothing and never answers, contains 0 stands in
 abbrev pub askedAt : Place → Asked
 askedAt Idle = asked Contains 0
 askedAt (Walk call key) = asked call key

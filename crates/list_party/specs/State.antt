@@ -1,5 +1,4 @@
--- The state: the party table, how many parties there are, how many rows are taken, the tallies (document 01, "Rows and
--- parties").
+-- The state: the party table, how many parties there are, T, the tallies (document 01, "Rows and parties").
 use Prim.Native.Nat.{ℕ}
 use lib.ListN.{set, getD, replicate}
 use Rattle.calls.specs.declared.Access.{Access}

@@ -12,8 +12,7 @@ use Rattle.script.specs.Head.{headOf}
 use Rattle.script.specs.Body.{bodyOf, firstBad}
 use Rattle.list_replay.specs.Output.{plain, lastOf, outputBy, outputOf}
 
--- calls and moves without tests of the form, and the listing, print what checked calls and moves and the live keys
--- would
+-- events without tests of the form, and the listing, print what checked events and the live keys would
 abbrev pub SameOutput : Type 0
 SameOutput = (text : List ℕ) → outputBy plain text ≡ outputOf text
 
@@ -34,8 +33,7 @@ ListingStands =
 abbrev pub OutputFits : Type 0
 OutputFits = (text : List ℕ) → length (outputOf text) ≤ 786432
 
--- so in a buffer of that size the whole output stands first, what was behind it is as before, and the answer is its
--- length
+-- so in a buffer of that size the whole output stands first, what was behind it stays, and the answer is its length
 abbrev pub WholeOutput : Type 0
 WholeOutput = (text out : List ℕ) (after : Page) → 786432 ≤ length out → Wrote (page out 0) (outputOf text) after →
     after ≡ page (outputOf text ++ drop (length (outputOf text)) out) (length (outputOf text))

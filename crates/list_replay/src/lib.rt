@@ -67,8 +67,7 @@ fn run_line(
     }
 }
 
-// One line for each key that a listing gives. (In a list that a schedule has grown it is never refused:
-// `ListingStands`.)
+// One line for each key that a listing gives. (In a list that a schedule has grown `ListingStands`: it is not refused.)
 fn put_live(
     kind: &[u8],
     key: &[u32],

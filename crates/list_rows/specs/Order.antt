@@ -1,5 +1,4 @@
--- The order of rows as one number (document 01, "Rows and parties"): a splice, row 0, row 1, the items by key, row 2,
--- row 3.
+-- The order of rows as one number (document 01, "Rows and parties"): splices, row 0, row 1, items by key, row 2, row 3.
 use mathlib.Core.List.{List}
 use mathlib.Core.Bool.{Bool, cond}
 use Prim.Native.Nat.{ℕ, zero, suc, _+_}

@@ -1,5 +1,4 @@
--- The probe: one set-up, call, move or listing by the checked entry points on the state that came, and all that it
--- leaves.
+-- The probe: one set-up, call, move or listing by the entry points on the state that came, and all that it leaves.
 use Prim.{Unit}
 use mathlib.Core.Path.{_≡_}
 use mathlib.Core.List.{List, [], _∷_, _++_}

@@ -237,9 +237,8 @@ fn ask_new(bytes: &[u8], out: &mut [u8]) -> usize
     )
 }
 
-// Leaves all that the one question of the bytes comes to at the start of the buffer, as far as it has room, and answers
-// the
-// place behind it.
+// Leaves all that the one question of the bytes comes to at the start of the buffer, as far as it has room, and
+// answers the place behind it.
 pub fn probe(bytes: &[u8], out: &mut [u8]) -> usize
     ensures { λ r. ⌜ Puts out 0 (probeOf (now (bytes .entry))) r ⌝ }
 {
