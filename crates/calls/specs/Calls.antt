@@ -1,7 +1,8 @@
 -- Calls: the code and the name of each (document 01, "Refusal numbers" and "The schedule program").
-use mathlib.Core.List.{List}
-use mathlib.Core.Bool.{Bool, true, false}
+use mathlib.Core.List.{List, _++_}
+use mathlib.Core.Bool.{Bool}
 use Prim.Native.Nat.{ℕ, zero, suc}
+use lib.Dec.{eqb}
 use Rattle.logic.specs.Quoted.{bytes}
 use Rattle.calls.specs.declared.Call.{Call}
 use Rattle.calls.specs.declared.Call.the-variants.{Add, Remove, Contains}
@@ -25,6 +26,10 @@ nameOf Add = bytes "add"
 nameOf Remove = bytes "remove"
 nameOf Contains = bytes "contains"
 
+-- as it stands in a line of a schedule, with a space on both sides
+abbrev pub spaced : Call → List ℕ
+spaced call = bytes " " ++ nameOf call ++ bytes " "
+
 -- a call with its key
 abbrev pub asked : Call → (key : ℕ) → Asked
 asked call key = record { call = call; key = key }
@@ -32,16 +37,10 @@ asked call key = record { call = call; key = key }
 -- ---- which call it is
 
 abbrev pub isAdd : Call → Bool
-isAdd Add = true
-isAdd Remove = false
-isAdd Contains = false
+isAdd call = eqb (codeOf call) 0
 
 abbrev pub isRemove : Call → Bool
-isRemove Add = false
-isRemove Remove = true
-isRemove Contains = false
+isRemove call = eqb (codeOf call) 1
 
 abbrev pub isContains : Call → Bool
-isContains Add = false
-isContains Remove = false
-isContains Contains = true
+isContains call = eqb (codeOf call) 2

@@ -71,31 +71,19 @@ impl Call {
     pub fn is_add(self) -> bool
         ensures { λ r. ⌜ r ≡ isAdd self ⌝ }
     {
-        match self {
-            Call::Add => true,
-            Call::Remove => false,
-            Call::Contains => false,
-        }
+        self.code() == 0
     }
 
     pub fn is_remove(self) -> bool
         ensures { λ r. ⌜ r ≡ isRemove self ⌝ }
     {
-        match self {
-            Call::Add => false,
-            Call::Remove => true,
-            Call::Contains => false,
-        }
+        self.code() == 1
     }
 
     pub fn is_contains(self) -> bool
         ensures { λ r. ⌜ r ≡ isContains self ⌝ }
     {
-        match self {
-            Call::Add => false,
-            Call::Remove => false,
-            Call::Contains => true,
-        }
+        self.code() == 2
     }
 }
 

@@ -1,4 +1,4 @@
--- The facts that specs/Claims states of columns, and the turns of the loop that clears one.
+-- The facts that specs/Claims states of columns, and the rounds of the loop that clears one.
 -- Assumes nothing.
 use mathlib.Core.Path.{_≡_, refl, ap, _∙_}
 use mathlib.Core.List.{List, [], _∷_, _++_}

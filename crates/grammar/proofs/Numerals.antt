@@ -1,4 +1,4 @@
--- Reading a written number: its first digit, one turn for each further digit, and turns that find no digit and change nothing.
+-- Reading a written number: its first digit, one reading for each further digit, and readings that find no digit and change nothing.
 -- Assumes nothing.
 use mathlib.Core.Path.{_≡_, refl, ap, sym, _∙_}
 use mathlib.Core.Logic.{dite}
@@ -46,7 +46,7 @@ byte-behind : (before behind : List ℕ) → byteAt (before ++ behind) (length b
 byte-behind before behind =
     ap (byteAt (before ++ behind)) (sym (add-zero (length before))) ∙ getD-append-add before behind 0 0
 
--- ---- turns that find no digit
+-- ---- readings that find no digit
 
 settled : (a b : Bool) (x : Number) → cond a x (cond b x x) ≡ x
 settled true b x = refl
@@ -57,15 +57,15 @@ next-stays : (text : List ℕ) (v at : ℕ) → digitOf (byteAt text at) ≡ 10 
 unfolding nextDigit
 next-stays text v at ends = simp ends (settled (eqb v 0) (ltb v 10000) (numeral v at))
 
--- so many turns
-abbrev turns : List ℕ → ℕ → Number → Number
-turns text zero x = x
-turns text (suc k) x = nextDigit text (turns text k x)
+-- so many readings
+abbrev moreDigits : List ℕ → ℕ → Number → Number
+moreDigits text zero x = x
+moreDigits text (suc k) x = nextDigit text (moreDigits text k x)
 
-turns-stay : (text : List ℕ) (x y : Number) (j i : ℕ) → turns text j x ≡ y → nextDigit text y ≡ y → turns text (i + j) x ≡ y
-turns-stay text x y j zero e stays = ap (λ (k : ℕ). turns text k x) (zero-add j) ∙ e
-turns-stay text x y j (suc i) e stays =
-    ap (λ (k : ℕ). turns text k x) (suc-add i j) ∙ ap (nextDigit text) (turns-stay text x y j i e stays) ∙ stays
+digits-stay : (text : List ℕ) (x y : Number) (j i : ℕ) → moreDigits text j x ≡ y → nextDigit text y ≡ y → moreDigits text (i + j) x ≡ y
+digits-stay text x y j zero e stays = ap (λ (k : ℕ). moreDigits text k x) (zero-add j) ∙ e
+digits-stay text x y j (suc i) e stays =
+    ap (λ (k : ℕ). moreDigits text k x) (suc-add i j) ∙ ap (nextDigit text) (digits-stay text x y j i e stays) ∙ stays
 
 -- ---- all digits
 
@@ -95,11 +95,11 @@ module _ (most n : ℕ) (large : 10 ≤ n) (before : List ℕ) where
   more-long : length (before ++ digits most (n / 10)) + 1 ≡ length (before ++ digits (suc most) n)
   more-long = sym (ap length more-is ∙ length-append (before ++ digits most (n / 10)) ((48 + n % 10) ∷ []))
 
--- a number that stands in a text behind `before` is read to its end by its first digit and at most k turns
+-- a number that stands in a text behind `before` is read to its end by its first digit and at most k readings
 record Read (text before spelt : List ℕ) (k n : ℕ) : Type 0 where
   count : ℕ
   few : count ≤ k
-  path : turns text count (firstDigit text (length before)) ≡ numeral n (length (before ++ spelt))
+  path : moreDigits text count (firstDigit text (length before)) ≡ numeral n (length (before ++ spelt))
 
 read-one : (k n most : ℕ) → n < 10 → (text before behind : List ℕ) → text ≡ before ++ digits (suc most) n ++ behind →
     Read text before (digits (suc most) n) k n
@@ -150,5 +150,5 @@ reads-back before behind n short ends =
     let read = read-all 4 n 19 (omega arith) short short text before behind refl in
     let next : digitOf (byteAt text at) ≡ 10 = ap digitOf (byte-behind (before ++ decimal n) behind) ∙ ends in
     let four : 4 ≡ 4 - read .count + read .count = omega (arith, read .few) in
-    ap (λ (k : ℕ). turns text k start) four
-    ∙ turns-stay text start (numeral n at) (read .count) (4 - read .count) (read .path) (next-stays text n at next)
+    ap (λ (k : ℕ). moreDigits text k start) four
+    ∙ digits-stay text start (numeral n at) (read .count) (4 - read .count) (read .path) (next-stays text n at next)

@@ -229,7 +229,7 @@ module _ (text : List ℕ) (L : length text ≤ 65536) where
       let b = off big little ahead refl l in
       rw b (second, w))
 
--- ---- turns enough
+-- ---- fuel enough
 
 item-long : (item : Item) → 6 ≤ length (itemText item)
 item-long (calls party code ds) = simp length-append (omega arith)

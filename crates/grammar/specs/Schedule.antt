@@ -9,6 +9,8 @@ use Prim.Native.Nat.{ℕ, _+_, _*_, _<_, _≤_}
 use Prim.Native.String.{String}
 use lib.ListN.{length}
 use lib.Dec.{eqb}
+use Rattle.calls.specs.declared.Call.the-variants.{Add, Remove, Contains}
+use Rattle.calls.specs.Calls.{spaced}
 use Rattle.text.specs.Reading.{hexOf}
 use Rattle.logic.specs.Quoted.{bytes}
 use Rattle.page.specs.Page.{decimal}
@@ -42,7 +44,7 @@ orderText order = cond (eqb order 0) (bytes "order=big\n") (bytes "order=little\
 
 -- call code 0 is add, 1 is remove, 2 is contains
 unfoldable pub verbText : ℕ → List ℕ
-verbText code = cond (eqb code 0) (bytes " add ") (cond (eqb code 1) (bytes " remove ") (bytes " contains "))
+verbText code = cond (eqb code 0) (spaced Add) (cond (eqb code 1) (spaced Remove) (spaced Contains))
 
 abbrev pub itemText : Item → List ℕ
 itemText (calls party code digits) = bytes "call=" ++ decimal party ++ verbText code ++ digits ++ bytes "\n"

@@ -36,7 +36,9 @@ use Rattle.list_form.specs.Form.{kindFits, keyFits, linkFits, noneOrSpare, ownF
 use Rattle.calls.specs.Calls.{isAdd, isRemove, callNamed}
 use Rattle.list_fresh.specs.Fresh.{freshTable}
 use Rattle.list.specs.Engine.{badParties, setUpTests, setUpOf, noRow, callAsks, callTests, callOf, moveAsks, moveTests, accepting, moveOf}
-use Rattle.list.proofs.Laws.{repeat-at, neither, past-form, table-fits, past-set-up}
+use Rattle.list.proofs.Laws.{past-form, table-fits, past-set-up}
+use Rattle.logic.proofs.Tests.{neither}
+use Rattle.logic.proofs.Lists.{repeat-at}
 use Rattle.list.specs.Claims.{SetUpIsGood, UnsetIsBad, CallKeeps, MoveKeeps}
 use Rattle.list_form.proofs.Good.{Each, Rows, Fits, fits, Good, good, good-form}
 use Rattle.list.proofs.Keeps.{row-keeps, item-fits, write-keeps, party-keeps, FitMove, move-fits}

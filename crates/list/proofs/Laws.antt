@@ -24,7 +24,7 @@ use Rattle.calls.specs.declared.Call.the-variants.{Contains}
 use Rattle.list_party.specs.declared.State.{State}
 use Rattle.calls.specs.declared.Said.{Said}
 use Rattle.list_unchecked.specs.Unchecked.{Machine, machine, made, uncheckedCall, uncheckedMove}
-use Rattle.list_form.proofs.Good.{two}
+use Rattle.logic.proofs.Tests.{and-parts, neither}
 use Rattle.list_form.specs.Form.{rowsIn, goodForm}
 use Rattle.list_fresh.specs.Fresh.{freshTable, emptied}
 use Rattle.list_party.specs.State.{restingState}
@@ -49,21 +49,10 @@ use Rattle.list.specs.Engine.{
 }
 use Rattle.calls.specs.Calls.{callNamed}
 
--- what is repeated stands everywhere
-pub repeat-at : {A : Type 0} (a : A) (count j : ℕ) → getD (replicate count a) j a ≡ a
-repeat-at a zero j = refl
-repeat-at a (suc count) zero = refl
-repeat-at a (suc count) (suc j) = repeat-at a count j
-
--- what the code's two verdicts tell of the tests
+-- what the code's and-parts verdicts tell of the tests
 form-told : (m : Machine) (asked : Verdict) {verdict found : Verdict} {asks : Tests} →
     verdictIs asked ≡ asks → verdictIs verdict ≡ formTests m (verdictIs asked) → verdict ≡ found → formTests m asks ≡ verdictIs found
 form-told m asked asks forms is = tests-told (forms ∙ ap (formTests m) asks) is
-
--- where neither of two tests held
-pub neither : (a b : Bool) → a || b ≡ false → (a ≡ false) × (b ≡ false)
-neither true b h = absurd (true≢false h)
-neither false b h = (refl, h)
 
 -- where the tests of a machine pass, the table does, the form does, and what is asked beside them
 pub past-form : (m : Machine) (asked : Tests) → formTests m asked ≡ passed → (badTable (m .table) ≡ false) × (goodForm m ≡ true) × (asked ≡ passed)
@@ -80,10 +69,10 @@ table-fits t fits =
     let key : Bool = eqb (length (t .key)) N in
     let next : Bool = eqb (length (t .next)) N in
     let back : Bool = eqb (length (t .back)) N in
-    let all = two (key && next && back) (leb 4 N && leb N 4096) (not-false (key && next && back && (leb 4 N && leb N 4096)) fits) in
-    let agree = two (key && next) back (all .0) in
-    let first = two key next (agree .0) in
-    let inside = two (leb 4 N) (leb N 4096) (all .1) in (
+    let all = and-parts (key && next && back) (leb 4 N && leb N 4096) (not-false (key && next && back && (leb 4 N && leb N 4096)) fits) in
+    let agree = and-parts (key && next) back (all .0) in
+    let first = and-parts key next (agree .0) in
+    let inside = and-parts (leb 4 N) (leb N 4096) (all .1) in (
       eqb-true (length (t .key)) N (first .0),
       eqb-true (length (t .next)) N (first .1),
       eqb-true (length (t .back)) N (agree .1),

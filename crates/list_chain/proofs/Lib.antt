@@ -1,3 +1,3 @@
--- The turns of the walks along the chain, and that the contracts leave no choice.
+-- The steps of the walks along the chain, and that the contracts leave no choice.
 pub mod Walk
 pub mod Determined

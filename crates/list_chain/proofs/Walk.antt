@@ -1,4 +1,4 @@
--- One turn of each walk along the chain: whether it rises, how many keys it has, the keys themselves.
+-- One step of each walk along the chain: whether it rises, how many keys it has, the keys themselves.
 -- Assumes nothing.
 use mathlib.Core.Path.{_≡_, refl, ap, _∙_}
 use mathlib.Core.Logic.{_≢_}

@@ -9,7 +9,7 @@ use lib.ListN.{length}
 use borrow.Author.Tests.{ltb-true, leb-true, eqb-true, lt-ltb, le-leb, eq-eqb}
 use Rattle.columns.specs.Column.{at}
 use Rattle.logic.proofs.Every.{every-at, every-of}
-use Rattle.logic.proofs.Tests.{and-left, and-right, and-both}
+use Rattle.logic.proofs.Tests.{and-left, and-right, and-parts, and-both}
 use Rattle.list_rows.specs.Table.{Table}
 use Rattle.list_party.specs.declared.Party.{Party}
 use Rattle.list_party.specs.State.{partyAt}
@@ -40,11 +40,8 @@ use Rattle.list_form.specs.Form.{
 
 -- ---- a chain of tests, taken apart
 
-pub two : (a b : Bool) → a && b ≡ true → (a ≡ true) × (b ≡ true)
-two a b h = (and-left a b h, and-right a b h)
-
 three : (a b c : Bool) → a && b && c ≡ true → (a ≡ true) × (b ≡ true) × (c ≡ true)
-three a b c h = let ab = two a b (and-left (a && b) c h) in (ab .0, ab .1, and-right (a && b) c h)
+three a b c h = let ab = and-parts a b (and-left (a && b) c h) in (ab .0, ab .1, and-right (a && b) c h)
 
 four : (a b c d : Bool) → a && b && c && d ≡ true → (a ≡ true) × (b ≡ true) × (c ≡ true) × (d ≡ true)
 four a b c d h = let abc = three a b c (and-left (a && b && c) d h) in (abc .0, abc .1, abc .2, and-right (a && b && c) d h)
@@ -154,7 +151,7 @@ module _ (m : Machine) where
       let count : Bool = countFits (m .state .count) in
       let parties : Bool = partiesFit (m .state) in
       let tallies : Bool = talliesFit (m .state .tallies) in
-      let whole = two (agree && fit && kinds && keys && nexts && backs) (count && parties && tallies) h in
+      let whole = and-parts (agree && fit && kinds && keys && nexts && backs) (count && parties && tallies) h in
       let first = six agree fit kinds keys nexts backs (whole .0) in
       let last = three count parties tallies (whole .1) in
       (first .0, first .1, first .2, first .3, first .4, first .5, last .0, last .1, last .2)
@@ -165,7 +162,7 @@ module _ (m : Machine) where
       let all = sentences h in
       let N : ℕ = length (m .table .kind) in
       let long = three (eqb (length (m .table .key)) N) (eqb (length (m .table .next)) N) (eqb (length (m .table .back)) N) (all .0) in
-      let taken = two (leb 4 T) (leb T N) (all .1) in
+      let taken = and-parts (leb 4 T) (leb T N) (all .1) in
       record {
         key-long = eqb-true (length (m .table .key)) N (long .0);
         next-long = eqb-true (length (m .table .next)) N (long .1);
@@ -182,8 +179,8 @@ module _ (m : Machine) where
   unfolding partiesFit
   good h =
       let all = sentences h in
-      let count = two (leb 1 (m .state .count)) (leb (m .state .count) 16) (all .6) in
-      let tally = two (leb (m .state .tallies .won + m .state .tallies .lost) (m .state .tallies .moves)) (leb (m .state .tallies .moves) 16777216) (all .8) in
+      let count = and-parts (leb 1 (m .state .count)) (leb (m .state .count) 16) (all .6) in
+      let tally = and-parts (leb (m .state .tallies .won + m .state .tallies .lost) (m .state .tallies .moves)) (leb (m .state .tallies .moves) 16777216) (all .8) in
       record {
         rows = rows-of h;
         some = leb-true 1 (m .state .count) (count .0);

@@ -1,4 +1,3 @@
 -- Good form as facts, the laws that the proofs of the code cite, and that the contracts leave no choice.
-pub mod Laws
 pub mod Good
 pub mod Determined

@@ -13,7 +13,7 @@ use Rattle.list_party.specs.declared.Place.{Place}
 use Rattle.list_party.specs.declared.Place.the-variants.{Idle, Walk, Skip, AddSwap, Mark, Reread, Clean, Back, Look}
 use Rattle.list_party.specs.declared.Party.{Party}
 use Rattle.list_party.specs.declared.State.{State}
-use Rattle.list_party.specs.Party.{isIdle}
+use Rattle.list_party.specs.Party.{isIdle, askedAt}
 use Rattle.list_party.specs.State.{partyAt}
 use Rattle.list_unchecked.specs.Unchecked.{Machine}
 use Rattle.list_form.specs.declared.Kept.{Kept}
@@ -87,15 +87,7 @@ keptAt (Back call key) = record { p = true; n = false; c = false; s = false; r =
 keptAt (Look call key) = record { p = false; n = false; c = true; s = false; r = false }
 
 abbrev pub removing : Place → Bool
-removing Idle = false
-removing (Walk call key) = isRemove call
-removing (Skip call key) = isRemove call
-removing (AddSwap call key) = isRemove call
-removing (Mark call key) = isRemove call
-removing (Reread call key) = isRemove call
-removing (Clean call key) = isRemove call
-removing (Back call key) = isRemove call
-removing (Look call key) = isRemove call
+removing place = isRemove (askedAt place .call)
 
 -- a REMOVE is marked exactly if its own is published
 abbrev pub marked : Party → Bool

@@ -38,7 +38,7 @@ ghost use Rattle.list_form.specs.Form.{
   goodForm,
 };
 
-// Which of its values a party kept.
+// Which of its values a party keeps.
 struct Kept {
     p: bool,
     n: bool,
@@ -145,7 +145,7 @@ fn rows_below(taken: u16, party: Party) -> bool
         & (party.own < taken)
 }
 
-// The values that a place kept.
+// The values that a place keeps.
 fn kept_at(place: Place) -> Kept
     ensures { λ r. ⌜ r ≡ keptAt place ⌝ }
 {
@@ -220,17 +220,9 @@ fn kept_at(place: Place) -> Kept
 fn removing(place: Place) -> bool
     ensures { λ r. ⌜ r ≡ removing place ⌝ }
 {
-    match place {
-        Place::Idle => false,
-        Place::Walk(call, _) => call.is_remove(),
-        Place::Skip(call, _) => call.is_remove(),
-        Place::AddSwap(call, _) => call.is_remove(),
-        Place::Mark(call, _) => call.is_remove(),
-        Place::Reread(call, _) => call.is_remove(),
-        Place::Clean(call, _) => call.is_remove(),
-        Place::Back(call, _) => call.is_remove(),
-        Place::Look(call, _) => call.is_remove(),
-    }
+    let asked = place.asked();
+    let call = asked.call;
+    call.is_remove()
 }
 
 // Whether what has no use is 0; a marked REMOVE has a use for r wherever it is.

@@ -33,7 +33,7 @@ use Rattle.list_grown.proofs.Listing.{keys-live, live-keys}
 use Rattle.list_grown.proofs.Replies.{Told, saidBy, move-reply}
 use Rattle.list_grown.proofs.Track.{Starts, removes, asks-for, no-missed, track-starts}
 use Rattle.list_grown.proofs.Events.{move-is, move-tests, move-asked, call-is, call-tests}
-use Rattle.list_grown.proofs.Grown.{Healthy, inside, healthy-turn, healthy-along}
+use Rattle.list_grown.proofs.Grown.{Healthy, inside, healthy-event, healthy-along}
 use Rattle.list_grown.proofs.SetUp.{none, set-up}
 use Rattle.list_grown.proofs.Serves.{Serves, walk, look, add-told, found-told, look-told, cut-told}
 use Rattle.list_grown.proofs.Since.{Sometime, Serving, Marks, Following, Absent, serving-since, following-since}
@@ -121,7 +121,7 @@ module _ (a : Pending) (said : Said) (w : Answered a (wordOf said)) where
   healthy = healthy-along none (a .parties) (a .before) (start (a .came) (a .parties)) (set-up (a .came) (a .parties) (w .grows .set) .healthy) (all .0)
 
   healthy′ : Healthy none (a .parties) m′
-  healthy′ = healthy-turn none (a .parties) m (call a) healthy this
+  healthy′ = healthy-event none (a .parties) m (call a) healthy this
 
   known : i < length (m .state .parties)
   known = inside none (a .parties) m (call a) healthy this

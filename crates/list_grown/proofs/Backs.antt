@@ -21,7 +21,7 @@ use Rattle.list_form.specs.Form.{rowsIn}
 use Rattle.list.specs.Engine.{callTests, callOf, moveTests, accepting, moveOf}
 use Rattle.calls.specs.Calls.{callNamed}
 use Rattle.list.specs.Run.{Event, calls, moves, eventOf, run}
-use Rattle.list.proofs.Laws.{repeat-at}
+use Rattle.logic.proofs.Lists.{repeat-at}
 use Rattle.logic.proofs.Cases.{by-row}
 use Rattle.list_grown.specs.History.{History, start}
 use Rattle.list_grown.specs.Demands.{Backs}
@@ -79,19 +79,19 @@ leaving-keeps : {A : Type 0} (tests : Tests) (found : Machine) (changed : Left M
 leaving-keeps (accepted done) found changed old new = new
 leaving-keeps (refused number) found changed old new = old
 
-turn-keeps : (m : Machine) (event : Event) → Backed (m .table) → Backed (eventOf m event .memory .table)
+event-keeps : (m : Machine) (event : Event) → Backed (m .table) → Backed (eventOf m event .memory .table)
 unfolding callOf moveOf uncheckedCall uncheckedMove
-turn-keeps m (calls party code key) b =
+event-keeps m (calls party code key) b =
     leaving-keeps (callTests m party code) m (left (uncheckedCall m party (callNamed code) key) passed) b
     (write-keeps (begunOf (m .state) (partyOf m party) (callNamed code) key .write) (m .table) b)
-turn-keeps m (moves party) b =
+event-keeps m (moves party) b =
     leaving-keeps (moveTests m party) m (accepting (uncheckedMove m party)) b
     (write-keeps (placeOf (partyOf m party .place) (m .table) (partyOf m party) .write) (m .table) b)
 
 run-keeps : (history : History) (m : Machine) → Backed (m .table) → Backed (run m history .table)
 unfolding run
 run-keeps [] m b = b
-run-keeps (first ∷ rest) m b = run-keeps rest (eventOf m first .memory) (turn-keeps m first b)
+run-keeps (first ∷ rest) m b = run-keeps rest (eventOf m first .memory) (event-keeps m first b)
 
 fresh-backed : (rows : ℕ) → Backed (freshTable rows)
 fresh-backed rows = record {

@@ -96,7 +96,7 @@ stale f q (Clean call k) = miss (f (q .p)) (q .n)
 stale f q (Back call k) = 0
 stale f q (Look call k) = 0
 
--- another party's turn: of the published rows at most one leads elsewhere, and that only if a swap is won
+-- another party's event: of the published rows at most one leads elsewhere, and that only if a swap is won
 module _ (w : World) (g : Intact w) (f : ℕ → ℕ) (cell won : ℕ) (but : (y : ℕ) → w .Pub y → (f y ≡ w .next y) ⊎ ((y ≡ cell) × (won ≡ 1))) (q : Party) where
   one : (y n : ℕ) → w .Pub y → miss (f y) n ≤ miss (w .next y) n + won
   one y n h = ⊎-elim (λ e. rw e (omega arith)) (λ e. omega (arith, e .1, miss-le (f y) n)) (but y h)

@@ -1,4 +1,4 @@
--- What a turn does to the listed keys, and how many it brings in and takes out, from what its deed does to the live ranks.
+-- What a event does to the listed keys, and how many it brings in and takes out, from what its deed does to the live ranks.
 -- Assumes nothing.
 use Prim.Native.Nat.{ℕ, _+_}
 use mathlib.Core.Path.{_≡_, subst}

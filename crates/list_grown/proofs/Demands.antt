@@ -22,7 +22,7 @@ use Rattle.list_grown.specs.Counts.{Counts, plus, noCounts}
 use Rattle.list_grown.specs.Deeds.{deedOf, countsOf}
 use Rattle.list_grown.specs.Rest.{AtRest}
 use Rattle.list_grown.specs.Demands.{GoodFormKept, ListsLiveKeys, Demand2, Demand3, RowsTaken}
-use Rattle.list_grown.proofs.Grown.{Healthy, Start, Balanced, turn-of, healthy-along, balanced-along, start-balanced}
+use Rattle.list_grown.proofs.Grown.{Healthy, Start, Balanced, advance-of, healthy-along, balanced-along, start-balanced}
 use Rattle.list_grown.proofs.SetUp.{none, set-up, start-is}
 use Rattle.list_grown.proofs.Listing.{listing-is, keys-rise, keys-live, live-keys, live-row, row-live}
 use Rattle.list_grown.proofs.Changes.{changes}
@@ -67,8 +67,8 @@ pub demand2 : Demand2
 demand2 came parties history event g accepted =
     let s = healthy came parties history g in
     let m = grown came parties history in
-    let turn = turn-of none parties m event s accepted in
-    changes none m (eventOf m event .memory) (s .inv) (turn .steady .inv) (deedOf m event) (partyOf m (whose event) .own) (turn .steady .live)
+    let advance = advance-of none parties m event s accepted in
+    changes none m (eventOf m event .memory) (s .inv) (advance .steady .inv) (deedOf m event) (partyOf m (whose event) .own) (advance .steady .live)
 
 -- one factor less
 fewer : (parties lost won : ℕ) → 1 ≤ parties → lost + won ≤ parties * won → lost ≤ (parties - 1) * won

@@ -1,4 +1,4 @@
--- An accepted event is a turn of its party, made in a state that passed the engine's tests.
+-- An accepted event is a event of its party, made in a state that passed the engine's tests.
 -- Assumes nothing.
 use Prim.Native.Nat.{ℕ, _≤_, _<_}
 use mathlib.Core.Path.{_≡_, refl, ap, _∙_}
@@ -33,7 +33,7 @@ use Rattle.list.proofs.Kept.{call-keeps, move-keeps}
 use Rattle.list_grown.specs.History.{isAccepted, accepts}
 use Rattle.list_grown.specs.Deeds.{called, deedOf}
 use Rattle.logic.proofs.Cases.{by-test}
-use Rattle.list_grown.proofs.Turn.{begun, Turn, moves as move-turn, spares, takes, asks}
+use Rattle.list_grown.proofs.Advance.{begun, Advances, moves as move-event, spares, takes, asks}
 
 abbrev pub whose : Event → ℕ
 whose (calls party code key) = party
@@ -46,7 +46,7 @@ pub record Happens (m : Machine) (event : Event) : Type 0 where
   pub known : whose event < m .state .count
   pub kept : goodForm (eventOf m event .memory) ≡ true
   pub still-fits : badTable (eventOf m event .memory .table) ≡ false
-  pub turn : Turn m (whose event) (eventOf m event .memory) (deedOf m event)
+  pub advance : Advances m (whose event) (eventOf m event .memory) (deedOf m event)
 
 -- ---- what is written leaves the columns as long as they were
 
@@ -75,9 +75,9 @@ module _ (m : Machine) (i : ℕ) where
   unfolding uncheckedMove
   unchecked-fits fits = same-fits (placeOf (partyOf m i .place) (m .table) (partyOf m i) .write) (m .table) ∙ fits
 
-  unchecked-turn : isIdle (partyOf m i .place) ≡ false → Turn m i (uncheckedMove m i .after) (deedOf m (moves i))
+  unchecked-event : isIdle (partyOf m i .place) ≡ false → Advances m i (uncheckedMove m i .after) (deedOf m (moves i))
   unfolding uncheckedMove
-  unchecked-turn busy = move-turn busy
+  unchecked-event busy = move-event busy
 
   -- a party that moves is known, and has a call to answer
   pub move-asked : moveTests m i ≡ passed → (i < m .state .count) × (isIdle (partyOf m i .place) ≡ false)
@@ -99,7 +99,7 @@ module _ (m : Machine) (i : ℕ) where
         known = move-asked passes .0;
         kept = move-keeps m i (wordOf (uncheckedMove m i .said)) (ap (λ l. l .answer) is);
         still-fits = rw is (unchecked-fits (form .0));
-        turn = rw is (unchecked-turn (move-asked passes .1));
+        advance = rw is (unchecked-event (move-asked passes .1));
       }
 
 -- ---- a call
@@ -126,10 +126,10 @@ module _ (m : Machine) (i key : ℕ) (fits : key < 4294967296) (g : Good m) (idl
 
   -- with the spare, or with the first row that is not taken
   starts : (call : Call) → isContains call ≡ false → not (partyOf m i .unpublished) && eqb T (rowsIn (m .table)) ≡ false →
-      Turn m i (started m i (startOf (m .state) (partyOf m i) call key)) called
+      Advances m i (started m i (startOf (m .state) (partyOf m i) call key)) called
   starts call is room = by-test
       (λ u. partyOf m i .unpublished ≡ u → not u && eqb T (rowsIn (m .table)) ≡ false →
-      Turn m i (begun m i (cond u (partyOf m i .own) T) (cond u T (oneMore 65535 T)) call key) called)
+      Advances m i (begun m i (cond u (partyOf m i .own) T) (cond u T (oneMore 65535 T)) call key) called)
       (partyOf m i .unpublished)
       (λ e hidden full. spares call key is fits idle hidden)
       (λ e shown full.
@@ -137,11 +137,11 @@ module _ (m : Machine) (i key : ℕ) (fits : key < 4294967296) (g : Good m) (idl
       rw (lt-ltb T 65535 (omega arith)) (takes call key is fits idle shown there))
       refl room
 
-  call-turn : (call : Call) → noRow (partyOf m i .unpublished) T (rowsIn (m .table)) call ≡ false → Turn m i (uncheckedCall m i call key) called
+  call-event : (call : Call) → noRow (partyOf m i .unpublished) T (rowsIn (m .table)) call ≡ false → Advances m i (uncheckedCall m i call key) called
   unfolding uncheckedCall begunOf
-  call-turn Add room = starts Add refl room
-  call-turn Remove room = starts Remove refl room
-  call-turn Contains room = asks key fits idle
+  call-event Add room = starts Add refl room
+  call-event Remove room = starts Remove refl room
+  call-event Contains room = asks key fits idle
 
 module _ (m : Machine) (i code key : ℕ) where
   pub call-is : callTests m i code ≡ passed → callOf m i code key ≡ left (uncheckedCall m i (callNamed code) key) passed
@@ -173,7 +173,7 @@ module _ (m : Machine) (i code key : ℕ) where
         known = leb-false (m .state .count) i (first .0);
         kept = call-keeps m i code key (ap (λ l. l .answer) is);
         still-fits = rw is (call-fits (callNamed code) (form .0));
-        turn = rw is (call-turn m i key fits (good m (form .1)) (idle-is (partyOf m i .place) (not-false idle (second .0)))
+        advance = rw is (call-event m i key fits (good m (form .1)) (idle-is (partyOf m i .place) (not-false idle (second .0)))
             (table-fits (m .table) (form .0) .4) (callNamed code) (fourth .0));
       }
 

@@ -24,8 +24,8 @@ use Rattle.list_grown.specs.Deeds.{deedOf, deedCounts, eventCounts, coun
 use Rattle.list_grown.proofs.View.{Inv}
 use Rattle.list_grown.proofs.Machine.{viewOf, worldOf, insOf, outsOf}
 use Rattle.list_grown.proofs.Books.{others-stale}
-use Rattle.list_grown.proofs.Turn.{staleOf, owesOf, heldOf, KeysSmall, Turned, turned}
-use Rattle.list_grown.proofs.Neat.{Neat, neat-turn}
+use Rattle.list_grown.proofs.Advance.{staleOf, owesOf, heldOf, KeysSmall, Advanced, advanced}
+use Rattle.list_grown.proofs.Neat.{Neat, neat-event}
 use Rattle.list_grown.proofs.Events.{whose, Happens, happens}
 use Rattle.list_grown.proofs.Changes.{ins-outs}
 
@@ -74,26 +74,26 @@ module _ (orphan : ℕ → Bool) (parties : ℕ) (m : Machine) (event : Event) (
   pub inside : whose event < length (m .state .parties)
   inside = omega (arith, h .known, form .few, s .sixteen)
 
-  pub turn-of : Turned orphan m (whose event) m′ (deedOf m event)
-  turn-of = turned orphan m (s .inv) (form .rows) (whose event) inside (omega (arith, form)) (omega (arith, form)) (omega (arith, form)) (h .turn)
+  pub advance-of : Advanced orphan m (whose event) m′ (deedOf m event)
+  advance-of = advanced orphan m (s .inv) (form .rows) (whose event) inside (omega (arith, form)) (omega (arith, form)) (omega (arith, form)) (h .advance)
 
-  pub healthy-turn : Healthy orphan parties m′
-  healthy-turn = let t = turn-of in record {
+  pub healthy-event : Healthy orphan parties m′
+  healthy-event = let t = advance-of in record {
     inv = t .steady .inv;
     form = h .kept;
     fits = h .still-fits;
     small = t .small (s .small);
     sixteen = t .sixteen ∙ s .sixteen;
     count = t .count ∙ s .count;
-    neat = neat-turn orphan m (s .inv) (form .rows) (whose event) inside (s .neat) (h .turn) t;
+    neat = neat-event orphan m (s .inv) (form .rows) (whose event) inside (s .neat) (h .advance) t;
   }
 
-  pub keys-turn : (extra (liveKeys m′) (liveKeys m) ≡ insOf (deedOf m event)) × (extra (liveKeys m) (liveKeys m′) ≡ outsOf (deedOf m event))
-  keys-turn = let t = turn-of in ins-outs orphan m m′ (s .inv) (t .steady .inv) (deedOf m event) (partyOf m (whose event) .own) (t .steady .live)
+  pub keys-event : (extra (liveKeys m′) (liveKeys m) ≡ insOf (deedOf m event)) × (extra (liveKeys m) (liveKeys m′) ≡ outsOf (deedOf m event))
+  keys-event = let t = advance-of in ins-outs orphan m m′ (s .inv) (t .steady .inv) (deedOf m event) (partyOf m (whose event) .own) (t .steady .live)
 
-  pub balanced-turn : (taken : ℕ) (c : Counts) → Balanced parties taken m c → Balanced parties taken m′ (plus c (eventCounts m event))
-  balanced-turn taken c k =
-      let t = turn-of in
+  pub balanced-event : (taken : ℕ) (c : Counts) → Balanced parties taken m c → Balanced parties taken m′ (plus c (eventCounts m event))
+  balanced-event taken c k =
+      let t = advance-of in
       let i = whose event in
       let deed = deedOf m event in
       let known : i < parties = omega (arith, h .known, s .count) in
@@ -106,7 +106,7 @@ module _ (orphan : ℕ → Bool) (parties : ℕ) (m : Machine) (event : Event) (
       let holdings = sum-one (heldOf m) (heldOf m′) i parties known (λ j n. rw (t .others j n)) in
       record {
         bound = omega (arith, k .bound, stales);
-        paid = omega (arith, k .paid, owings, keys-turn);
+        paid = omega (arith, k .paid, owings, keys-event);
         rows = omega (arith, k .rows, t .rows, holdings);
         moves = omega (arith, k .moves, t .made);
         won = omega (arith, k .won, t .won);
@@ -132,7 +132,7 @@ along P keeps (first ∷ rest) m start ok =
 
 module _ (orphan : ℕ → Bool) (parties : ℕ) where
   pub healthy-along : (history : History) (m : Machine) → Healthy orphan parties m → AllAccepted m history → Healthy orphan parties (run m history)
-  healthy-along history m s ok = along (Healthy orphan parties) (λ m event s e. healthy-turn orphan parties m event s e) history m s ok
+  healthy-along history m s ok = along (Healthy orphan parties) (λ m event s e. healthy-event orphan parties m event s e) history m s ok
 
   pub balanced-along : (taken : ℕ) (history : History) (m : Machine) (c : Counts) → Healthy orphan parties m → Balanced parties taken m c →
       AllAccepted m history →
@@ -143,8 +143,8 @@ module _ (orphan : ℕ → Bool) (parties : ℕ) where
       let this : accepts m first ≡ true = and-left (accepts m first) (acceptsAll (eventOf m first .memory) rest) ok in
       let m′ = eventOf m first .memory in
       rw (plus-plus c (eventCounts m first) (countsOf m′ rest)) at
-      (balanced-along taken rest m′ (plus c (eventCounts m first)) (healthy-turn orphan parties m first s this)
-      (balanced-turn orphan parties m first s this taken c k)
+      (balanced-along taken rest m′ (plus c (eventCounts m first)) (healthy-event orphan parties m first s this)
+      (balanced-event orphan parties m first s this taken c k)
       (and-right (accepts m first) (acceptsAll m′ rest) ok))
 
   -- at a start nothing is stale, owed or held

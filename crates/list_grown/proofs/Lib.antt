@@ -6,7 +6,7 @@ pub mod Machine
 pub mod Does
 pub mod Steps
 pub mod Books
-pub mod Turn
+pub mod Advance
 pub mod Listing
 pub mod Changes
 pub mod Neat

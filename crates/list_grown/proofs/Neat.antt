@@ -48,7 +48,7 @@ use Rattle.list_grown.proofs.Does.{
   back-ends,
 }
 use Rattle.list_grown.proofs.Steps.{clean-swings}
-use Rattle.list_grown.proofs.Turn.{Turn, moves, spares, takes, asks, Turned, party-after}
+use Rattle.list_grown.proofs.Advance.{Advances, moves, spares, takes, asks, Advanced, party-after}
 use Rattle.list_grown.proofs.Listing.{behind-is, no-splice}
 
 -- ---- who sees to a removed row
@@ -77,13 +77,13 @@ pub at-rest : (orphan : ℕ → Bool) (m : Machine) → Neat (viewOf orphan m) �
     worldOf orphan m .Pub x → Reach (worldOf orphan m) x 1 → Removed (worldOf orphan m) x → ⊥
 at-rest orphan m n idle x p r k = let a = n .tended x p k r in idle-tends (rw (idle (a .0)) at (a .1 .1))
 
--- a turn of another party leaves this so, as long as x is on the list
+-- a event of another party leaves this so, as long as x is on the list
 tends-ext : {w w′ : World} {q : Party} {x : ℕ} {l : Place} → Intact w → Extends w w′ → w .Pub x → Reach w′ x 1 → Tends w q x l → Tends w′ q x l
 tends-ext {q = q} {x = x} g t p r (at-walk e f ρ c) = at-walk (t .rank x p ∙ e) f (row-ext g t ρ) (t .stays (q .c) x ρ p c r)
 tends-ext {x = x} g t p r (at-clean e) = at-clean (t .rank x p ∙ e)
 tends-ext {x = x} g t p r (at-back e) = at-back (t .rank x p ∙ e)
 
--- ---- what a turn has to show
+-- ---- what a event has to show
 
 -- if a rank goes, the party that has taken it out cares for its row
 abbrev Takes : World → Party → Change → Type 0
@@ -91,7 +91,7 @@ Takes w q still = Unit {0}
 Takes w q (gain K) = Unit {0}
 Takes w q (lose K z) = (x : ℕ) → w .rank x ≡ K → w .next x ≡ z → Cares w q x
 
--- of the party i that makes the turn; the others stay as they are
+-- of the party i that makes the event; the others stay as they are
 record Neatly (σ σ′ : View) (i : ℕ) (d : Change) : Type 0 where
   keeps : (x : ℕ) → world σ .Pub x → Reach (world σ) x 1 → Reach (world σ′) x 1 → Cares (world σ) (σ .party i) x → Cares (world σ) (σ′ .party i) x
   fresh : Takes (world σ′) (σ′ .party i) d
@@ -180,14 +180,14 @@ module _ (orphan : ℕ → Bool) (m : Machine) where
         fresh = rw (party-after m i h moved) (does-takes deed _ d);
       }
 
-      neatly : {m′ : Machine} {deed : Deed} → Turn m i m′ deed → Neatly (viewOf orphan m) (viewOf orphan m′) i (changeOf deed (q .own))
+      neatly : {m′ : Machine} {deed : Deed} → Advances m i m′ deed → Neatly (viewOf orphan m) (viewOf orphan m′) i (changeOf deed (q .own))
       neatly (moves busy) = moved-neatly (does t q w (q .place) busy (v .holds i))
       neatly (spares call key is fits idle f) = called-neatly i idle
       neatly (takes call key is fits idle f room) = called-neatly i idle
       neatly (asks key fits idle) = called-neatly i idle
 
-      pub neat-turn : Neat (viewOf orphan m) → {m′ : Machine} {deed : Deed} → Turn m i m′ deed → Turned orphan m i m′ deed → Neat (viewOf orphan m′)
-      neat-turn n turn u = neat-move i v n (u .steady) (u .others) (neatly turn)
+      pub neat-event : Neat (viewOf orphan m) → {m′ : Machine} {deed : Deed} → Advances m i m′ deed → Advanced orphan m i m′ deed → Neat (viewOf orphan m′)
+      neat-event n advance u = neat-move i v n (u .steady) (u .others) (neatly advance)
 
     -- ---- the chain at rest
 

@@ -94,7 +94,7 @@ At w q (Clean call k) = OnWay w (3 + k) (q .p) (q .n) (q .r) × (3 + k < w .rank
 At w q (Back call k) = Below w (3 + k) (q .p) × Away w call (q .own) (q .unpublished) (q .r) (3 + k)
 At w q (Look call k) = KeyRank w (3 + k) × Proper w (q .c) × (w .rank (q .c) ≤ w .rank 2) × Looks call
 
--- ---- another party's turn changes none of it
+-- ---- another party's event changes none of it
 
 -- a row whose entries stay
 pub record Keeps (w w′ : World) (x : ℕ) : Type 0 where

@@ -17,7 +17,8 @@ use Rattle.list_form.specs.Form.{rowsIn, goodForm}
 use Rattle.list_fresh.specs.Fresh.{freshTable}
 use Rattle.list_party.specs.State.{restingState}
 use Rattle.list.specs.Engine.{badTable, setUpTests, setUpOf}
-use Rattle.list.proofs.Laws.{repeat-at, past-set-up, table-fits}
+use Rattle.list.proofs.Laws.{past-set-up, table-fits}
+use Rattle.logic.proofs.Lists.{repeat-at}
 use Rattle.list.proofs.Kept.{set-up-is-good}
 use Rattle.list_world.proofs.World.{World, RowFacts, Removed, stop, step}
 use Rattle.list_grown.specs.Demands.{HoldsRow}

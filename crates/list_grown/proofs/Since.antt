@@ -27,10 +27,10 @@ use Rattle.list_grown.proofs.Machine.{worldOf}
 use Rattle.list_grown.proofs.Does.{Does, does}
 use Rattle.list_grown.proofs.Listing.{keys-live}
 use Rattle.list_grown.proofs.Replies.{saidBy}
-use Rattle.list_grown.proofs.Track.{Tracks, track-turns}
-use Rattle.list_grown.proofs.Turn.{party-after}
+use Rattle.list_grown.proofs.Track.{Tracks, track-goes}
+use Rattle.list_grown.proofs.Advance.{party-after}
 use Rattle.list_grown.proofs.Events.{whose, happens, move-is, move-tests, move-asked}
-use Rattle.list_grown.proofs.Grown.{Healthy, inside, turn-of, healthy-turn}
+use Rattle.list_grown.proofs.Grown.{Healthy, inside, advance-of, healthy-event}
 use Rattle.list_grown.proofs.SetUp.{none}
 use Rattle.list_grown.proofs.Serves.{Serves, Goes, does-goes, marks-or-serves, does-silent}
 
@@ -53,7 +53,7 @@ module _ {P : Machine → Event → Type 0} {m : Machine} {first : Event} {rest 
   unfolding run
   later s = record { early = first ∷ s .early; event = s .event; late = s .late; split = ap (λ l. first ∷ l) (s .split); holds = s .holds }
 
--- an event of a history in which party i does not call: a move of i, or a turn of another party
+-- an event of a history in which party i does not call: a move of i, or a event of another party
 data NoCall (i : ℕ) : Event → Type 0 where
   own : NoCall i (moves i)
   other : {event : Event} → i ≢ whose event → NoCall i event
@@ -79,7 +79,7 @@ module _ (parties i : ℕ) (P : Machine → Event → Type 0) (Q : Machine → T
       let m′ = eventOf m first .memory in
       ⊎-elim (λ p. inl (at-once p))
       (λ q′. ⊎-elim (λ l. inl (later l)) (λ e. inr e)
-      (until rest m′ (healthy-turn none parties m first s this) (and-right (accepts m first) (acceptsAll m′ rest) ok) (by .1) q′))
+      (until rest m′ (healthy-event none parties m first s this) (and-right (accepts m first) (acceptsAll m′ rest) ok) (by .1) q′))
       (keeps m first s this (by .0) q)
 
 -- ---- a move of the party
@@ -128,35 +128,35 @@ module _ (i k : ℕ) where
   -- ---- the states since the call
 
   module _ (parties : ℕ) where
-    serving-turn : (call : Call) (m : Machine) (event : Event) → Healthy none parties m → accepts m event ≡ true → NoCall i event → Serving call m →
+    serving-event : (call : Call) (m : Machine) (event : Event) → Healthy none parties m → accepts m event ≡ true → NoCall i event → Serving call m →
         Marks call m event ⊎ Serving call (eventOf m event .memory)
-    serving-turn call m event s e own r =
+    serving-event call m event s e own r =
         ⊎-elim (λ d. inl (d .0, refl, d .1)) (λ r. inr r) (marks-or-serves (own-goes parties i m s e (r (busy parties i m s e))))
-    serving-turn call m event s e (other n) r = inr (rw (turn-of none parties m event s e .others i n) r)
+    serving-event call m event s e (other n) r = inr (rw (advance-of none parties m event s e .others i n) r)
 
     pub serving-since : (call : Call) (history : History) (m : Machine) → Healthy none parties m → AllAccepted m history → callsNot i history ≡ true →
         Serving call m →
         Sometime (Marks call) m history ⊎ Serving call (run m history)
-    serving-since call = until parties i (Marks call) (Serving call) (serving-turn call)
+    serving-since call = until parties i (Marks call) (Serving call) (serving-event call)
 
     -- a REMOVE that marks leaves the key absent, so that nothing is to be shown of it
-    live-turn : (m : Machine) (event : Event) → Healthy none parties m → accepts m event ≡ true → NoCall i event → LiveRank (worldOf none m) (3 + k) →
+    live-event : (m : Machine) (event : Event) → Healthy none parties m → accepts m event ≡ true → NoCall i event → LiveRank (worldOf none m) (3 + k) →
         Following m →
         Following (eventOf m event .memory)
-    live-turn m event s e own live f still l =
+    live-event m event s e own live f still l =
         let t = f (busy parties i m s e) live in
-        track-turns none m (s .inv) i (inside none parties m event s e) (happens m event e .turn) (turn-of none parties m event s e) i
+        track-goes none m (s .inv) i (inside none parties m event s e) (happens m event e .advance) (advance-of none parties m event s e) i
         (λ is. own-silent parties i m s e k t still) t l
-    live-turn m event s e (other n) live f still l =
-        let turn = turn-of none parties m event s e in
-        track-turns none m (s .inv) (whose event) (inside none parties m event s e) (happens m event e .turn) turn i (λ is. absurd (n is))
-        (f (rw (turn .others i n) at still) live) l
+    live-event m event s e (other n) live f still l =
+        let advance = advance-of none parties m event s e in
+        track-goes none m (s .inv) (whose event) (inside none parties m event s e) (happens m event e .advance) advance i (λ is. absurd (n is))
+        (f (rw (advance .others i n) at still) live) l
 
-    following-turn : (m : Machine) (event : Event) → Healthy none parties m → accepts m event ≡ true → NoCall i event → Following m →
+    following-event : (m : Machine) (event : Event) → Healthy none parties m → accepts m event ≡ true → NoCall i event → Following m →
         Absent m event ⊎ Following (eventOf m event .memory)
-    following-turn m event s e by f = by-test (λ b. Absent m event ⊎ Following (eventOf m event .memory)) (has k (liveKeys m))
-        (λ is. inr (live-turn m event s e by (keys-live none m (s .inv) k is) f)) (λ is. inl is)
+    following-event m event s e by f = by-test (λ b. Absent m event ⊎ Following (eventOf m event .memory)) (has k (liveKeys m))
+        (λ is. inr (live-event m event s e by (keys-live none m (s .inv) k is) f)) (λ is. inl is)
 
     pub following-since : (history : History) (m : Machine) → Healthy none parties m → AllAccepted m history → callsNot i history ≡ true → Following m →
         Sometime Absent m history ⊎ Following (run m history)
-    following-since = until parties i Absent Following following-turn
+    following-since = until parties i Absent Following following-event

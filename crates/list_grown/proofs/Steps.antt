@@ -77,7 +77,7 @@ row-off t x kind key next back z d = (
   getD-set-other (t .back) x z back 0 d,
 )
 
--- ---- a party's turn, by what it writes
+-- ---- a party's event, by what it writes
 
 module _ (orphan : ℕ → Bool) (m : Machine) (v : Inv (viewOf orphan m)) (z : Rows (m .state .taken) (m .table)) (i : ℕ)
     (h : i < length (m .state .parties)) where

@@ -30,7 +30,7 @@ use Rattle.list_grown.proofs.Party.{At}
 use Rattle.list_grown.proofs.View.{View, world, Inv, Steady}
 use Rattle.list_grown.proofs.Machine.{viewOf, worldOf, changeOf}
 use Rattle.list_grown.proofs.Does.{Does, does, passes, steps, cut-ready, cut-again, mark-wins, mark-loses, rereads, look-passes, look-steps}
-use Rattle.list_grown.proofs.Turn.{begun, asking, Turn, moves, spares, takes, asks, Turned, party-after}
+use Rattle.list_grown.proofs.Advance.{begun, asking, Advances, moves, spares, takes, asks, Advanced, party-after}
 use Rattle.list_grown.proofs.Replies.{Missed, Told, cut-no, reread-no, look-no, saidBy, move-reply}
 
 -- ---- who looks for a key
@@ -91,7 +91,7 @@ not-no (cut-no n) (walks e f) live t = reached live t (rw e at n)
 not-no (reread-no n) (again e) live t = reached live t (rw e at n)
 not-no (look-no n) (looks e) live t = reached live t (rw e at n)
 
--- ---- a turn that leaves the key live
+-- ---- a event that leaves the key live
 
 -- q looks for the key, and the key's row is reached from where it stands, if it is from c
 record Onto (w : World) (K c : ℕ) (q : Party) : Type 0 where
@@ -161,7 +161,7 @@ module _ (orphan : ℕ → Bool) (m : Machine) (v : Inv (viewOf orphan m)) (i : 
       go (inl e) = absurd (subst (Effect w (worldOf orphan m′)) e (t .live) .1 K .0 l .1 refl)
       go (inr o) = rw is (tracks-kept v t (s .live) o (s .track) l)
 
-  -- ---- turns
+  -- ---- events
 
   module _ (h : i < length (m .state .parties)) where
     now : (q′ : Party) → getD (set (m .state .parties) i q′) i blank ≡ q′
@@ -172,19 +172,19 @@ module _ (orphan : ℕ → Bool) (m : Machine) (v : Inv (viewOf orphan m)) (i : 
     track-starts {k} (removes own taken) v′ l = rw (now (starting Remove k own)) (from-one (v′ .good) (walks refl refl) refl l)
     track-starts {k} asks-for v′ l = rw (now (looking q Contains k 1)) (from-one (v′ .good) (looks refl) refl l)
 
-    own-turn : {K : ℕ} {m′ : Machine} {deed : Deed} → Turn m i m′ deed → Turned orphan m i m′ deed → saidBy m i ≡ Nothing → Tracks w q K →
+    own-event : {K : ℕ} {m′ : Machine} {deed : Deed} → Advances m i m′ deed → Advanced orphan m i m′ deed → saidBy m i ≡ Nothing → Tracks w q K →
         LiveRank (worldOf orphan m′) K → Tracks (worldOf orphan m′) (partyOf m′ i) K
-    own-turn (moves b) t e s l =
+    own-event (moves b) t e s l =
         let moved = placeOf (q .place) (m .table) q in
         own-move (carried m i moved .after) (party-after m i h moved) (does (m .table) q w (q .place) b (v .holds i)) (t .steady) (subst Going (sym e) tt) s l
-    own-turn (spares call key is fits idle f) t e s l = absurd (not-idle (s .seeks) idle)
-    own-turn (takes call key is fits idle f room) t e s l = absurd (not-idle (s .seeks) idle)
-    own-turn (asks key fits idle) t e s l = absurd (not-idle (s .seeks) idle)
+    own-event (spares call key is fits idle f) t e s l = absurd (not-idle (s .seeks) idle)
+    own-event (takes call key is fits idle f room) t e s l = absurd (not-idle (s .seeks) idle)
+    own-event (asks key fits idle) t e s l = absurd (not-idle (s .seeks) idle)
 
-    -- a turn of i, for any party j: another, or i itself if it does not answer
-    pub track-turns : {K : ℕ} {m′ : Machine} {deed : Deed} → Turn m i m′ deed → Turned orphan m i m′ deed → (j : ℕ) → (j ≡ i → saidBy m i ≡ Nothing) →
+    -- a event of i, for any party j: another, or i itself if it does not answer
+    pub track-goes : {K : ℕ} {m′ : Machine} {deed : Deed} → Advances m i m′ deed → Advanced orphan m i m′ deed → (j : ℕ) → (j ≡ i → saidBy m i ≡ Nothing) →
         Tracks w (partyOf m j) K → LiveRank (worldOf orphan m′) K → Tracks (worldOf orphan m′) (partyOf m′ j) K
-    track-turns turn t j e s l = by-row j i
-        (λ is. rw is (own-turn turn t (e is) (rw is at s) l))
+    track-goes advance t j e s l = by-row j i
+        (λ is. rw is (own-event advance t (e is) (rw is at s) l))
         (λ n. rw (t .others j n) (tracks-kept v (t .steady) (s .live) (stays (row-c (v .good) (s .seeks) (v .holds j)) (partyOf m j) (s .seeks) refl)
         (s .track) l))

@@ -1,4 +1,4 @@
--- The rows and the parties together, their invariant, and the three shapes that a turn has.
+-- The rows and the parties together, their invariant, and the three shapes that a event has.
 -- Assumes nothing.
 use Prim.Native.Nat.{ℕ, _+_, _≤_, _<_}
 use mathlib.Core.Path.{_≡_, refl, sym, ap, _∙_}
@@ -56,14 +56,14 @@ not-orphan {σ} v j x h = go (σ .orphan x) refl
     go true e = absurd (v .lost x e .1 j h)
     go false e = e
 
--- a turn of party i: the others stay, and i holds what it held, or the first row that was not taken
+-- a event of party i: the others stay, and i holds what it held, or the first row that was not taken
 pub record Alone (σ σ′ : View) (i : ℕ) : Type 0 where
   pub others : (j : ℕ) → j ≢ i → σ′ .party j ≡ σ .party j
   pub grows : σ .taken ≤ σ′ .taken
   pub same : (x : ℕ) → σ′ .orphan x ≡ σ .orphan x
   pub holding : (x : ℕ) → HoldsRow (σ′ .party i) x → HoldsRow (σ .party i) x ⊎ ((x ≡ σ .taken) × (σ .taken < σ′ .taken))
 
--- what every turn keeps, and what it changes
+-- what every event keeps, and what it changes
 pub record Steady (σ σ′ : View) (d : Change) : Type 0 where
   pub inv : Inv σ′
   pub ext : Extends (world σ) (world σ′)

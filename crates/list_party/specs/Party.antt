@@ -20,42 +20,35 @@ use Rattle.list_party.specs.declared.Place.the-variants.{
 use Rattle.list_party.specs.declared.Values.{Values}
 use Rattle.list_party.specs.declared.Party.{Party}
 
+-- a record, from its place, the values that it keeps there, and its own row
+abbrev pub party : Place → Values → (own : ℕ) (unpublished : Bool) → Party
+party at v own hidden =
+    record { place = at; p = v .p; n = v .n; c = v .c; s = v .s; r = v .r; own = own; unpublished = hidden }
+
+abbrev pub noValues : Values
+noValues = record { p = 0; n = 0; c = 0; s = 0; r = 0 }
+
+abbrev pub valuesOf : Party → Values
+valuesOf q = record { p = q .p; n = q .n; c = q .c; s = q .s; r = q .r }
+
 -- idle without a spare
 abbrev pub blank : Party
-blank = record { place = Idle; p = 0; n = 0; c = 0; s = 0; r = 0; own = 0; unpublished = false }
+blank = party Idle noValues 0 false
 
 -- an unpublished own stays with the party that has answered; a published one is in the list
 abbrev pub spareOf : Party → ℕ
 spareOf q = cond (q .unpublished) (q .own) 0
 
 abbrev pub idling : Party → Party
-idling q = record { place = Idle; p = 0; n = 0; c = 0; s = 0; r = 0; own = spareOf q; unpublished = q .unpublished }
+idling q = party Idle noValues (spareOf q) (q .unpublished)
 
 -- the same record, own published
 abbrev pub published : Party → Party
-published q = record {
-  place = q .place;
-  p = q .p;
-  n = q .n;
-  c = q .c;
-  s = q .s;
-  r = q .r;
-  own = q .own;
-  unpublished = false;
-}
+published q = party (q .place) (valuesOf q) (q .own) false
 
 -- the party at a place with these values; its own row stays with it
 abbrev pub goesTo : Party → Place → Values → Party
-goesTo q place v = record {
-  place = place;
-  p = v .p;
-  n = v .n;
-  c = v .c;
-  s = v .s;
-  r = v .r;
-  own = q .own;
-  unpublished = q .unpublished;
-}
+goesTo q place values = party place values (q .own) (q .unpublished)
 
 -- ---- what a place tells
 

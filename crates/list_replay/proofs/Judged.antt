@@ -112,9 +112,9 @@ pub same-output : SameOutput
 unfolding outputBy
 same-output text =
     let bad = firstBad text (headOf text) in
-    let by-bare = judged plain text (headOf text) bad in
+    let by-plain = judged plain text (headOf text) bad in
     let by-checked = judged checked text (headOf text) bad in
-    by-test (λ long. ltb 65536 (length text) ≡ long → cond long (badLine 0) by-bare ≡ cond long (badLine 0) by-checked)
+    by-test (λ long. ltb 65536 (length text) ≡ long → cond long (badLine 0) by-plain ≡ cond long (badLine 0) by-checked)
     (ltb 65536 (length text)) (λ t e. refl) (λ f e. judged-same text (ltb-false 65536 (length text) e) bad refl) refl
 
 pub listing-stands : ListingStands

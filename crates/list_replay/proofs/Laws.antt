@@ -63,11 +63,11 @@ module _ (text : List ℕ) (order : ℕ) (m : Machine) (seen at left : ℕ) wher
       lineSays plainEvent order m (seen + 4) line ++ playedFrom text order after (seen + 1) next
       (left - 1) ≡ playedFrom text order m seen at left
   unfolding saysFrom lastOf
-  played-on line some here goes turns leads =
+  played-on line some here goes advances leads =
       let l = lineAt text at in
       let m′ = lineOf plainEvent order m l .memory in
       let rest = bodyFrom text (nextOf l) (left - 1) in
-      rw (turns, leads, here)
+      rw (advances, leads, here)
       (sym (append-assoc (lineSays plainEvent order m (seen + 4) l) (saysFrom plainEvent order m′ (seen + 1) rest) (closing plain
       (lastOf plainEvent order m′ rest)))
       ∙ ap (played plain order m seen) (sym (body-on text at left some (rw here at goes))))

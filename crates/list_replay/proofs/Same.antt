@@ -1,4 +1,4 @@
--- The output by bare turns and a listing is the output by checked turns and live keys.
+-- The output by events without tests of the form and a listing is the output by checked events and live keys.
 -- Assumes nothing.
 use Prim.{Unit, tt}
 use mathlib.Core.Path.{_≡_, refl, ap, _∙_}

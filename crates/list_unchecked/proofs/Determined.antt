@@ -1,4 +1,4 @@
--- The contracts of the bare call and the bare move leave one outcome each.
+-- The contracts of the unchecked call and move leave one outcome each.
 -- Assumes nothing.
 use Rattle.logic.specs.Outcome.{OneOutcome}
 use Rattle.logic.proofs.Outcome.{by-equation}

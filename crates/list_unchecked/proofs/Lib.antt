@@ -1,3 +1,3 @@
--- The laws that the proofs of the bare call and the bare move cite, and that the contracts leave no choice.
+-- The laws that the proofs of the unchecked call and move cite, and that the contracts leave no choice.
 pub mod Laws
 pub mod Determined

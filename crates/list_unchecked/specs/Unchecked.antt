@@ -8,7 +8,7 @@ use Rattle.calls.specs.Tallies.{oneMore}
 use Rattle.list_party.specs.declared.Place.the-variants.{Walk, Look}
 use Rattle.list_party.specs.declared.Party.{Party}
 use Rattle.list_party.specs.declared.State.{State}
-use Rattle.list_party.specs.Party.{goesTo}
+use Rattle.list_party.specs.Party.{party, goesTo}
 use Rattle.list_party.specs.State.{partyAt, withParty, withTaken, tallied}
 use Rattle.list_rows.specs.declared.Write.the-variants.{Untouched, Item}
 use Rattle.list_rows.specs.Table.{Table, head, headNxt}
@@ -40,16 +40,7 @@ takenThen st q = cond (q .unpublished) (st .taken) (oneMore 65535 (st .taken))
 
 -- the start: p = 0, n = 1, c = 1, place WALK; nobody else knows of the own row
 abbrev pub starting : Call → (key own : ℕ) → Party
-starting call key own = record {
-  place = Walk call key;
-  p = head;
-  n = headNxt;
-  c = headNxt;
-  s = 0;
-  r = 0;
-  own = own;
-  unpublished = true;
-}
+starting call key own = party (Walk call key) (record { p = head; n = headNxt; c = headNxt; s = 0; r = 0 }) own true
 
 -- the own row becomes an item with the call's key, next 0 and back 0
 abbrev pub startOf : State → Party → Call → ℕ → Begun
@@ -61,11 +52,9 @@ startOf st q call key =
 unfoldable pub begunOf : State → Party → Call → ℕ → Begun
 begunOf st q Add key = startOf st q Add key
 begunOf st q Remove key = startOf st q Remove key
-begunOf st q Contains key = record {
-  party = goesTo q (Look Contains key) (record { p = 0; n = 0; c = headNxt; s = 0; r = 0 });
-  write = Untouched;
-  taken = st .taken;
-}
+begunOf st q Contains key =
+    let looks = goesTo q (Look Contains key) (record { p = 0; n = 0; c = headNxt; s = 0; r = 0 }) in
+    record { party = looks; write = Untouched; taken = st .taken }
 
 -- put into the table and the state
 abbrev pub started : Machine → ℕ → Begun → Machine

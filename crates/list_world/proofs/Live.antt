@@ -1,4 +1,4 @@
--- The live ranks, and what a turn does to them. (KeyRank k has rank 3 + k.)
+-- The live ranks, and what an event does to them. (Key k has rank 3 + k.)
 use Prim.Native.Nat.{ℕ, _<_}
 use mathlib.Core.Path.{_≡_}
 use mathlib.Core.Logic.{_⊎_, _≢_, _↔_}

@@ -4,4 +4,5 @@ pub mod Cases
 pub mod Tests
 pub mod Every
 pub mod Sum
+pub mod Lists
 pub mod Keys

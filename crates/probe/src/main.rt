@@ -12,7 +12,7 @@ fn text_room() -> [u8; 65537]
     [0; 65537]
 }
 
-// Room for the output of every question (`OutputFits` of `probed`).
+// Room for the output of every question (`OutputFits` of `probe_answer`).
 fn out_room() -> [u8; 54952]
     ensures { λ r. ⌜ 54952 ≡ length r ⌝ }
 {

@@ -12,7 +12,7 @@ fn text_room() -> [u8; 65537]
     [0; 65537]
 }
 
-// Room for the output of every text (`OutputFits` of `replay`).
+// Room for the output of every text (`OutputFits` of `list_replay`).
 fn out_room() -> [u8; 786432]
     ensures { λ r. ⌜ 786432 ≡ length r ⌝ }
 {

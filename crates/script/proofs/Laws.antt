@@ -16,7 +16,7 @@ pub last-of : (seen len x : ℕ) (line known : Line) → line ≡ known → x �
 last-of seen len x line known e g = g ∙ ap (λ (l : Line). lastBad seen l len) (sym e)
 
 module _ (text : List ℕ) (seen at : ℕ) where
-  -- no turn is left: the line is missing
+  -- no fuel is left: the line is missing
   pub bad-none : (left : ℕ) → left ≡ 0 → badFrom text seen at left ≡ seen + 4
   unfolding badFrom
   bad-none left h = rw h
@@ -35,7 +35,7 @@ module _ (text : List ℕ) (seen at : ℕ) where
   bad-on zero h e = absurd (not-suc-le-zero h)
   bad-on (suc k) h e = rw (e, sub-one)
 
--- the body ends where no turn is left, and at a line without call and step; any other line belongs to it
+-- the body ends where no fuel is left, and at a line without call and step; any other line belongs to it
 module _ (text : List ℕ) (at : ℕ) where
   pub body-none : (left : ℕ) → left ≡ 0 → bodyFrom text at left ≡ []
   unfolding bodyFrom

@@ -1,4 +1,4 @@
--- The turns of a body, that every reading leads on, that the turns are enough, and that the contracts leave no choice.
+-- The lines of a body, that every reading leads on, that the fuel is enough, and that the contracts leave no choice.
 pub mod Laws
 pub mod Reach
 pub mod Progress

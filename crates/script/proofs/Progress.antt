@@ -1,4 +1,4 @@
--- The turns that the two readings of a body are allowed are enough, and a good head sets what a list can be set up with.
+-- The fuel that the two readings of a body are allowed is enough, and a good head sets what a list can be set up with.
 -- Assumes nothing.
 use mathlib.Core.Path.{_≡_, refl, ap}
 use mathlib.Core.Bool.{Bool, true, false, cond, _&&_, _||_}
@@ -19,26 +19,26 @@ use Rattle.script.specs.Body.{mostLines, bodyFrom, badFrom}
 use Rattle.script.specs.Claims.{FuelNeverDecides, GoodHead}
 use Rattle.script.proofs.Reach.{found, here, onward, parties-reach, nodes-reach, order-reach}
 
--- ---- turns
+-- ---- fuel
 
--- more turns find the same
-abbrev Same : List ℕ → (more turns seen at : ℕ) → Type 0
-Same text more turns seen at =
-    (badFrom text seen at (turns + more) ≡ badFrom text seen at turns) × (bodyFrom text at (turns + more) ≡ bodyFrom text at turns)
+-- more fuel finds the same
+abbrev Same : List ℕ → (more fuel seen at : ℕ) → Type 0
+Same text more fuel seen at =
+    (badFrom text seen at (fuel + more) ≡ badFrom text seen at fuel) × (bodyFrom text at (fuel + more) ≡ bodyFrom text at fuel)
 
--- turns that reach past the end of the text are enough
-enough : (text : List ℕ) → length text < lost → (more turns seen at : ℕ) → at ≤ length text → length text < at + 6 * turns
-    → Same text more turns seen at
+-- fuel that reaches past the end of the text is enough
+enough : (text : List ℕ) → length text < lost → (more fuel seen at : ℕ) → at ≤ length text → length text < at + 6 * fuel
+    → Same text more fuel seen at
 unfolding badFrom bodyFrom
 enough text L more zero seen at h k = absurd (omega arith)
-enough text L more (suc turns) seen at h k =
+enough text L more (suc fuel) seen at h k =
     let l = lineAt text at in
-    let on : endsBody l ≡ false → Same text more turns (seen + 1) (nextOf l) =
-    λ e. let w = onward text L at h e in enough text L more turns (seen + 1) (nextOf l) (w .1) (omega (arith, w)) in
-    rw (suc-add turns more)
+    let on : endsBody l ≡ false → Same text more fuel (seen + 1) (nextOf l) =
+    λ e. let w = onward text L at h e in enough text L more fuel (seen + 1) (nextOf l) (w .1) (omega (arith, w)) in
+    rw (suc-add fuel more)
     (cond-same (endsBody l) _ _ _ (λ e. on e .0), cond-same (endsBody l) _ _ _ (λ e. ap (λ rest. l ∷ rest) (on e .1)))
 
--- so many turns are, from the sixth byte on
+-- so much is, from the sixth byte on
 most-enough : (text : List ℕ) (at : ℕ) → 6 ≤ at → length text < at + 6 * mostLines text
 unfolding mostLines
 most-enough text at h = omega arith

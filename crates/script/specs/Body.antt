@@ -35,7 +35,7 @@ lastBad seen (Step party next) len = seen + 4
 lastBad seen (End count next) len = endBad seen count next len
 lastBad seen Bad len = seen + 4
 
--- from a place on; a line that is missing is bad (behind a good head the turns do not run out before the text does)
+-- from a place on; a line that is missing is bad (behind a good head the fuel does not run out before the text does)
 unfoldable pub badFrom : List ℕ → (seen at left : ℕ) → ℕ
 badFrom text seen at zero = seen + 4
 badFrom text seen at (suc left) =

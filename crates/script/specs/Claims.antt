@@ -7,8 +7,8 @@ use Rattle.text.specs.Reading.{lost}
 use Rattle.script.specs.Head.{headOf}
 use Rattle.script.specs.Body.{mostLines, bodyFrom, badFrom}
 
--- behind a good head, in a text as long as a slice can be, the number of turns that the two readings of a body
--- are allowed never decides: with more of them they find the same
+-- behind a good head, in a text as long as a slice can be, the fuel that the two readings of a body
+-- are allowed never decides: with more of it they find the same
 abbrev pub FuelNeverDecides : Type 0
 FuelNeverDecides = (text : List ℕ) (more : ℕ) → length text < lost → headOf text .bad ≡ 0 →
     let from = headOf text .next in

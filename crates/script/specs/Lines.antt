@@ -3,6 +3,8 @@ use mathlib.Core.List.{List}
 use mathlib.Core.Bool.{Bool, true, false, cond}
 use Prim.Native.Nat.{ℕ}
 use lib.Dec.{eqb, leb}
+use Rattle.calls.specs.declared.Call.the-variants.{Add, Remove, Contains}
+use Rattle.calls.specs.Calls.{spaced}
 use Rattle.text.specs.Reading.{lost, word, only, numeral, numberAt, fieldAt}
 use Rattle.logic.specs.Quoted.{bytes}
 use Rattle.text.specs.declared.Number.{Number}
@@ -23,9 +25,9 @@ verb code next = record { code = code; next = next }
 -- the call's name, with a space on both sides, as its code; any other name ends at `lost`, as code 2
 unfoldable pub verbAt : List ℕ → ℕ → Verb
 verbAt text at =
-    let add = word text at (bytes " add ") in
-    let remove = word text at (bytes " remove ") in
-    let contains = word text at (bytes " contains ") in
+    let add = word text at (spaced Add) in
+    let remove = word text at (spaced Remove) in
+    let contains = word text at (spaced Contains) in
     cond (eqb add lost) (cond (eqb remove lost) (verb 2 contains) (verb 1 remove)) (verb 0 add)
 
 -- P is 0 to 99

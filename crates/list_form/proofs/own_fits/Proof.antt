@@ -1,6 +1,6 @@
 -- `own_fits` goes by the place and the call.
 -- Assumes nothing.
-use Rattle.list_form.proofs.Laws.{same-truth}
+use Rattle.logic.proofs.Tests.{same-truth}
 use borrow.Author.Needs.{needs}
 use Rattle.list_form.proofs.own_fits.Statement.{statement}
 use Rattle.list_form.proofs.own_fits.Tie as tie

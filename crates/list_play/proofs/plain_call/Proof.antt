@@ -1,4 +1,4 @@
--- A call: refused, or the bare one.
+-- A call: refused, or the unchecked one.
 -- Assumes nothing.
 use Rattle.list_play.proofs.Laws.{calls-on, calls-off}
 use borrow.Author.Needs.{needs}

@@ -1,4 +1,4 @@
--- A move: refused, or the bare one.
+-- A move: refused, or the unchecked one.
 -- Assumes nothing.
 use Rattle.list_play.proofs.Laws.{moves-on, moves-off}
 use borrow.Author.Needs.{needs}

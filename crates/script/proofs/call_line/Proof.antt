@@ -1,4 +1,4 @@
--- A call line is its parts in turn.
+-- A call line is its parts one after another.
 -- Assumes nothing.
 use Rattle.script.specs.Lines.{callLine}
 use borrow.Author.Needs.{needs}

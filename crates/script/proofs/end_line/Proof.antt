@@ -1,4 +1,4 @@
--- An end line is its parts in turn.
+-- An end line is its parts one after another.
 -- Assumes nothing.
 use Rattle.script.specs.Lines.{endLine}
 use borrow.Author.Needs.{needs}

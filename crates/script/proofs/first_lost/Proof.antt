@@ -1,4 +1,4 @@
--- The three lines of the head in turn.
+-- The three lines of the head one after another.
 -- Assumes nothing.
 use borrow.Author.Tests.{eq-eqb, ne-eqb}
 use Rattle.script.specs.Head.{firstLost}

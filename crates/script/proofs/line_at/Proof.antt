@@ -1,4 +1,4 @@
--- The three kinds of line, tried in turn.
+-- The three kinds of line, tried one after another.
 -- Assumes nothing.
 use borrow.Author.Tests.{eq-eqb, ne-eqb}
 use Rattle.script.specs.Lines.{lineAt}

@@ -1,4 +1,4 @@
--- The line of the nodes is its parts in turn.
+-- The line of the nodes is its parts one after another.
 -- Assumes nothing.
 use Rattle.script.specs.Head.{nodesLine}
 use borrow.Author.Needs.{needs}

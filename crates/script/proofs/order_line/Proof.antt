@@ -1,4 +1,4 @@
--- The two orders, tried in turn.
+-- The two orders, tried one after another.
 -- Assumes nothing.
 use borrow.Author.Tests.{eq-eqb, ne-eqb}
 use Rattle.script.specs.Head.{orderLine}

@@ -1,4 +1,4 @@
--- The line of the parties is its parts in turn.
+-- The line of the parties is its parts one after another.
 -- Assumes nothing.
 use Rattle.script.specs.Head.{partiesLine}
 use borrow.Author.Needs.{needs}

@@ -1,4 +1,4 @@
--- A step line is its parts in turn.
+-- A step line is its parts one after another.
 -- Assumes nothing.
 use Rattle.script.specs.Lines.{stepLine}
 use borrow.Author.Needs.{needs}

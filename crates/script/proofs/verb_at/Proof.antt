@@ -1,4 +1,4 @@
--- The call that is named, tried in turn.
+-- The call that is named, tried one after another.
 -- Assumes nothing.
 use borrow.Author.Tests.{eq-eqb, ne-eqb}
 use Rattle.script.specs.Lines.{verbAt}

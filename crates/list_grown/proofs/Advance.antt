@@ -1,4 +1,4 @@
--- A turn of a party is an accepted call or move; what every turn keeps and changes, once for all.
+-- A event of a party is an accepted call or move; what every event keeps and changes, once for all.
 -- Assumes nothing.
 use Prim.{tt}
 use Prim.Native.Nat.{ℕ, _+_, _*_, _≤_, _<_}
@@ -48,7 +48,7 @@ use Rattle.list_grown.proofs.Does.{does}
 use Rattle.list_grown.proofs.Steps.{row-off, quiet, read as reads-only, does-steady}
 use Rattle.list_grown.proofs.Books.{miss-same, stale, owes, accessOf, NoItem, Booked, does-booked}
 
--- ---- turns
+-- ---- events
 
 -- an ADD or a REMOVE that starts with row own, and then so many rows taken
 abbrev pub begun : Machine → (i own taken : ℕ) → Call → (key : ℕ) → Machine
@@ -58,16 +58,16 @@ abbrev pub asking : Machine → (i key : ℕ) → Machine
 asking m i key = machine (m .table) (withTaken (withParty (m .state) i (looking (partyOf m i) Contains key 1)) (m .state .taken))
 
 -- a move; a call with a spare; a call that takes a row; a CONTAINS
-pub data Turn (m : Machine) (i : ℕ) : Machine → Deed → Type 0 where
+pub data Advances (m : Machine) (i : ℕ) : Machine → Deed → Type 0 where
   moves : isIdle (partyOf m i .place) ≡ false →
-      Turn m i (carried m i (placeOf (partyOf m i .place) (m .table) (partyOf m i)) .after) (deedAt (partyOf m i .place) (m .table) (partyOf m i))
+      Advances m i (carried m i (placeOf (partyOf m i .place) (m .table) (partyOf m i)) .after) (deedAt (partyOf m i .place) (m .table) (partyOf m i))
   spares : (call : Call) (key : ℕ) → isContains call ≡ false → key < 4294967296 → partyOf m i .place ≡ Idle → partyOf m i .unpublished ≡ true →
-      Turn m i (begun m i (partyOf m i .own) (m .state .taken) call key) called
+      Advances m i (begun m i (partyOf m i .own) (m .state .taken) call key) called
   takes : (call : Call) (key : ℕ) → isContains call ≡ false → key < 4294967296 → partyOf m i .place ≡ Idle → partyOf m i .unpublished ≡ false →
-      m .state .taken < rowsIn (m .table) → Turn m i (begun m i (m .state .taken) (m .state .taken + 1) call key) called
-  asks : (key : ℕ) → key < 4294967296 → partyOf m i .place ≡ Idle → Turn m i (asking m i key) called
+      m .state .taken < rowsIn (m .table) → Advances m i (begun m i (m .state .taken) (m .state .taken + 1) call key) called
+  asks : (key : ℕ) → key < 4294967296 → partyOf m i .place ≡ Idle → Advances m i (asking m i key) called
 
--- ---- what a turn does to the books
+-- ---- what a event does to the books
 
 abbrev pub staleOf : Machine → ℕ → ℕ
 staleOf m j = stale (λ row. nextAt (m .table) row) (partyOf m j) (partyOf m j .place)
@@ -82,7 +82,7 @@ heldOf m j = oneIf (partyOf m j .unpublished)
 abbrev pub KeysSmall : Table → Type 0
 KeysSmall t = (row : ℕ) → keyAt t row < 4294967296
 
-pub record Turned (orphan : ℕ → Bool) (m : Machine) (i : ℕ) (m′ : Machine) (deed : Deed) : Type 0 where
+pub record Advanced (orphan : ℕ → Bool) (m : Machine) (i : ℕ) (m′ : Machine) (deed : Deed) : Type 0 where
   pub steady : Steady (viewOf orphan m) (viewOf orphan m′) (changeOf deed (partyOf m i .own))
   pub others : (j : ℕ) → j ≢ i → partyOf m′ j ≡ partyOf m j
   pub mine : staleOf m′ i + deedCounts deed .lost ≤ staleOf m i
@@ -162,7 +162,7 @@ module _ (st : State) (below-moves : st .tallies .moves < 4294967295) (below-won
   deed-lost cleanWon = omega arith
   deed-lost lost = rw (lt-ltb (st .tallies .lost) 4294967295 below-lost)
 
--- ---- every turn
+-- ---- every event
 
 -- what a start says of its party
 start-owes : (call : Call) (key : ℕ) → owes (Walk call key) true ≡ 0
@@ -232,7 +232,7 @@ module _ (orphan : ℕ → Bool) (m : Machine) (v : Inv (viewOf orphan m)) (z : 
 
   -- a call that makes row x, which is not published, an item of party i
   called-with : (x taken : ℕ) (call : Call) (key : ℕ) → key < 4294967296 → (w .Pub x → ⊥) → partyOf m i .place ≡ Idle → taken + heldOf m i ≡ T + 1 →
-      Steady (viewOf orphan m) (viewOf orphan (begun m i x taken call key)) still → Turned orphan m i (begun m i x taken call key) called
+      Steady (viewOf orphan m) (viewOf orphan (begun m i x taken call key)) still → Advanced orphan m i (begun m i x taken call key) called
   called-with x taken call key fits new idle rows steady = record {
     steady = steady;
     others = λ j n. off (starting call key x) j n;
@@ -256,7 +256,7 @@ module _ (orphan : ℕ → Bool) (m : Machine) (v : Inv (viewOf orphan m)) (z : 
       kept : (y : ℕ) → w .Pub y → nextAt (begun m i x taken call key .table) y ≡ nextAt (m .table) y
       kept y k = row-off (m .table) x 2 key 0 0 y (λ e. new (rw e at k)) .1
 
-  asked : (key : ℕ) → key < 4294967296 → partyOf m i .place ≡ Idle → Turned orphan m i (asking m i key) called
+  asked : (key : ℕ) → key < 4294967296 → partyOf m i .place ≡ Idle → Advanced orphan m i (asking m i key) called
   asked key fits idle = let q′ = looking (partyOf m i) Contains key 1 in record {
     steady = call-look key fits;
     others = λ j n. off q′ j n;
@@ -278,7 +278,7 @@ module _ (orphan : ℕ → Bool) (m : Machine) (v : Inv (viewOf orphan m)) (z : 
   moved-on : (moved : Moved) (deed : Deed) → m .state .tallies .moves < 4294967295 → m .state .tallies .won < 4294967295 →
       m .state .tallies .lost < 4294967295 →
       Booked w (m .table) (partyOf m i) (partyOf m i .place) moved deed →
-      Steady (viewOf orphan m) (viewOf orphan (carried m i moved .after)) (changeOf deed (partyOf m i .own)) → Turned orphan m i (carried m i moved .after) deed
+      Steady (viewOf orphan m) (viewOf orphan (carried m i moved .after)) (changeOf deed (partyOf m i .own)) → Advanced orphan m i (carried m i moved .after) deed
   moved-on moved deed a b c books steady =
       let st = withParty (m .state) i (moved .party) in
       let parties : tallied (moved .access) st .parties ≡ st .parties = same-parties (moved .access) st in
@@ -298,14 +298,14 @@ module _ (orphan : ℕ → Bool) (m : Machine) (v : Inv (viewOf orphan m)) (z : 
         lost = rw (books .access) (deed-lost st a b c deed);
       }
 
-  pub turned : {m′ : Machine} {deed : Deed} → m .state .tallies .moves < 4294967295 → m .state .tallies .won < 4294967295 →
+  pub advanced : {m′ : Machine} {deed : Deed} → m .state .tallies .moves < 4294967295 → m .state .tallies .won < 4294967295 →
       m .state .tallies .lost < 4294967295 →
-      Turn m i m′ deed → Turned orphan m i m′ deed
-  turned a b c (moves busy) =
+      Advances m i m′ deed → Advanced orphan m i m′ deed
+  advanced a b c (moves busy) =
       let it = does (m .table) (partyOf m i) w (partyOf m i .place) busy (v .holds i) in
       moved-on _ _ a b c (does-booked orphan m v i it (v .holds i)) (does-steady orphan m v z i h it (v .holds i))
-  turned a b c (spares call key is fits idle f) =
+  advanced a b c (spares call key is fits idle f) =
       called-with (partyOf m i .own) T call key fits (λ k. k .1 i (f, refl)) idle (rw f (omega arith)) (call-spare call key is fits f)
-  turned a b c (takes call key is fits idle f room) =
+  advanced a b c (takes call key is fits idle f room) =
       called-with T (T + 1) call key fits (λ k. omega (arith, k .0)) idle (rw f (omega arith)) (call-take call key is fits f room)
-  turned a b c (asks key fits idle) = asked key fits idle
+  advanced a b c (asks key fits idle) = asked key fits idle
