@@ -14,7 +14,7 @@ codeOf Add = 0
 codeOf Remove = 1
 codeOf Contains = 2
 
--- the call of a code; a code over 2 is refused before it is named
+-- the call of a code; one over 2, which the entry points refuse before they name it, gives CONTAINS
 abbrev pub callNamed : ℕ → Call
 callNamed zero = Add
 callNamed (suc zero) = Remove

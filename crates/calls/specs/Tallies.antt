@@ -9,7 +9,7 @@ use Rattle.calls.specs.declared.Tallies.{Tallies}
 abbrev pub noTallies : Tallies
 noTallies = record { moves = 0; won = 0; lost = 0 }
 
--- a count with one more; at the largest number of its width it stays (good form never comes near it)
+-- a count with one more; at the largest number of its width it stays (what the engine accepts never comes near it)
 abbrev pub oneMore : (top count : ℕ) → ℕ
 oneMore top count = cond (ltb count top) (count + 1) count
 

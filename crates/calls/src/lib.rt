@@ -46,7 +46,7 @@ pub struct Tallies {
 }
 
 impl Call {
-    // The call of a code. (A code over 2 names none, and is refused before it is named.)
+    // The call of a code. Refuses nothing: a code over 2 gives CONTAINS here; the entry points refuse it (6) before.
     pub fn named(code: u32) -> Call
         ensures { λ r. ⌜ r ≡ callNamed code ⌝ }
     {
@@ -106,7 +106,7 @@ impl Tallies {
         }
     }
 
-    // The tallies with an access counted.
+    // The tallies with an access counted. Does not test the limit of moves (9).
     pub fn counted(self, access: Access) -> Tallies
         ensures { λ r. ⌜ r ≡ counted access self ⌝ }
     {

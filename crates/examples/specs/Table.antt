@@ -8,7 +8,20 @@ use Rattle.list_party.specs.declared.Place.the-variants.{Idle, Walk, Mark, Rere
 use Rattle.calls.specs.Words.{yes, no}
 use Rattle.list.specs.Run.{calls, moves, going}
 use Rattle.logic.specs.Quoted.{bytes}
-use Rattle.examples.specs.Example.{Standing, Stage, Example, field, list, schedule, AllHold, listed, alone, onlyMoves, silent, by-move}
+use Rattle.examples.specs.Example.{
+  Standing,
+  Stage,
+  Example,
+  field,
+  list,
+  schedule,
+  AllHold,
+  listed,
+  alone,
+  onlyMoves,
+  silent,
+  by-move,
+}
 
 -- the codes of the calls
 abbrev add : ℕ

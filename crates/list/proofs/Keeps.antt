@@ -46,7 +46,7 @@ use Rattle.list_moves.specs.Moves.{
   backOf,
   lookOnOf,
   lookOf,
-  placeOf,
+  moveAt,
 }
 use Rattle.list_form.specs.Form.{kindFits, keyFits, linkFits, keptAt, othersZero, canReach, noneOrSpare, ownFits, recordFits, partyFits}
 use Rattle.calls.specs.Calls.{isRemove, isAdd, isContains}
@@ -308,7 +308,7 @@ module _ (T : ℕ) (t : Table) (g : Rows T t) where
     back k Remove false f = back-remove k f
     back k Contains unpublished f = absurd (false≢true (f .reach))
 
-    fit-place : (place : Place) (unpublished : Bool) → Fits T (who place unpublished) → FitMove T (placeOf place t (who place unpublished))
+    fit-place : (place : Place) (unpublished : Bool) → Fits T (who place unpublished) → FitMove T (moveAt place t (who place unpublished))
     fit-place Idle u f = record { write = tt; party = f }
     fit-place (Walk call k) u f = walk k call u f
     fit-place (Skip call k) u f =
@@ -335,5 +335,5 @@ module _ (T : ℕ) (t : Table) (g : Rows T t) where
     fit-place (Look call k) u f = let is : call ≡ Contains = is-contains call (f .reach) in rw is (look k u (rw is at f))
 
   -- whatever the place
-  pub move-fits : (q : Party) → Fits T q → FitMove T (placeOf (q .place) t q)
+  pub move-fits : (q : Party) → Fits T q → FitMove T (moveAt (q .place) t q)
   move-fits q f = fit-place (q .p) (q .n) (q .c) (q .s) (q .r) (q .own) (q .place) (q .unpublished) f

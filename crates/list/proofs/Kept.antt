@@ -30,7 +30,7 @@ use Rattle.list_party.specs.Party.{blank, goesTo, isIdle}
 use Rattle.calls.specs.Tallies.{oneMore, tallyPlus}
 use Rattle.list_party.specs.State.{partyAt, withParty, withTaken, withTallies, tallied, restingState}
 use Rattle.list_moves.specs.declared.Moved.{Moved}
-use Rattle.list_moves.specs.Moves.{placeOf}
+use Rattle.list_moves.specs.Moves.{moveAt}
 use Rattle.list_unchecked.specs.Unchecked.{Machine, machine, partyOf, starting, startOf, begunOf, started, uncheckedCall, uncheckedMove}
 use Rattle.list_form.specs.Form.{kindFits, keyFits, linkFits, noneOrSpare, ownFits, recordFits, partyFits, rowsIn, goodForm}
 use Rattle.calls.specs.Calls.{isAdd, isRemove, callNamed}
@@ -162,7 +162,7 @@ unfolding uncheckedMove
 moved-good m i g known left =
     let T : ℕ = m .state .taken in
     let q : Party = partyOf m i in
-    let moved : Moved = placeOf (q .place) (m .table) q in
+    let moved : Moved = moveAt (q .place) (m .table) q in
     let f : FitMove T moved = move-fits T (m .table) (g .rows) q (party-of m i g known) in
     let t : Table = written (moved .write) (m .table) in
     tallied-good (moved .access) t (withParty (m .state) i (moved .party))

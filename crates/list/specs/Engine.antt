@@ -29,8 +29,8 @@ abbrev pub badTable : Table → Bool
 badTable t = badColumns (length (t .kind)) (length (t .key)) (length (t .next)) (length (t .back))
 
 -- 1, then 3, then what the entry point itself asks
-abbrev pub formTests : Machine → Tests → Tests
-formTests m asked = refusing (badTable (m .table)) 1 (refusing (not (goodForm m)) 3 asked)
+abbrev pub formTests : Machine → (later : Tests) → Tests
+formTests m later = refusing (badTable (m .table)) 1 (refusing (not (goodForm m)) 3 later)
 
 -- ---- set-up: 1, 2
 

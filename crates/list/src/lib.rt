@@ -69,8 +69,8 @@ fn set_up_verdict(kind: usize, key: usize, next: usize, back: usize, parties: u3
     Verdict::Accepted
 }
 
-// Lays an empty list for so many parties into the columns, whatever stood there; refused, it hands back the state that
-// came, and the columns are as they were.
+// Lays an empty list for so many parties into the columns, whatever stood there. Refusals 1, 2; refused, the columns
+// are as they were, and the state that came is handed back.
 pub fn set_up(
     kind: &mut [u8],
     key: &mut [u32],
@@ -151,9 +151,9 @@ fn form_verdict(
     next: &[u16],
     back: &[u16],
     state: State,
-    asked: Verdict,
+    later: Verdict,
 ) -> Verdict
-    ensures { λ r. ⌜ verdictIs r ≡ formTests (machine (before kind key next back) state) (verdictIs asked) ⌝ }
+    ensures { λ r. ⌜ verdictIs r ≡ formTests (machine (before kind key next back) state) (verdictIs later) ⌝ }
 {
     if bad_columns(kind.len(), key.len(), next.len(), back.len()) {
         return Verdict::Refused(Refusal::BadColumns);
@@ -161,10 +161,10 @@ fn form_verdict(
     if !good_form(kind, key, next, back, state) {
         return Verdict::Refused(Refusal::BadForm);
     }
-    asked
+    later
 }
 
-// Starts a call of a party.
+// Starts a call of a party. Refusals 1, 3, 4, 5, 6, 7; refused, all is as it came.
 pub fn call(
     kind: &mut [u8],
     key: &mut [u32],
@@ -178,8 +178,8 @@ pub fn call(
     ensures { λ r. ⌜ afterIs (after kind key next back) r
         ≡ callOf (machine (before kind key next back) state) number code wanted ⌝ }
 {
-    let asked = call_asks(state, kind.len(), number, code);
-    let verdict = form_verdict(kind, key, next, back, state, asked);
+    let later = call_asks(state, kind.len(), number, code);
+    let verdict = form_verdict(kind, key, next, back, state, later);
     match verdict {
         Verdict::Accepted => After {
             state: list_unchecked::call(
@@ -198,7 +198,7 @@ pub fn call(
     }
 }
 
-// Makes one move of a party.
+// Makes one move of a party. Refusals 1, 3, 4, 8, 9; refused, all is as it came.
 pub fn step(
     kind: &mut [u8],
     key: &mut [u32],
@@ -240,7 +240,7 @@ fn list_asks(rises: bool, count: usize, places: usize) -> Verdict
     Verdict::Accepted
 }
 
-// Writes the live keys, in rising order, into the first of the places.
+// Writes the live keys, in rising order, into the first of the places. Refusals 1, 3, 10; refused, no place is written.
 pub fn listing(
     kind: &[u8],
     key: &[u32],
@@ -254,8 +254,8 @@ pub fn listing(
 {
     let rises = chain_rises(kind, key, next, back, state.taken);
     let count = live_count(kind, key, next, back, state.taken);
-    let asked = list_asks(rises, count, places.len());
-    let verdict = form_verdict(kind, key, next, back, state, asked);
+    let later = list_asks(rises, count, places.len());
+    let verdict = form_verdict(kind, key, next, back, state, later);
     match verdict {
         Verdict::Accepted => {
             write_live(kind, key, next, back, state.taken, places);

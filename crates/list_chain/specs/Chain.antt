@@ -10,17 +10,17 @@ use Rattle.list_rows.specs.Order.{below}
 abbrev pub behind : Table → ℕ → ℕ
 behind t row = cond (isSplice t (nextAt t row)) (nextAt t (nextAt t row)) (nextAt t row)
 
--- an item that nobody has removed
+-- an item whose next is not a splice
 abbrev pub isLive : Table → ℕ → Bool
 isLive t row = isItem t row && not (isSplice t (nextAt t row))
 
 -- each row is below the one behind it, from this row on to row 2
--- (fuel bounds the walk; `FuelNeverDecides` of `list` says that it never shows)
+-- (fuel bounds the walk; `FuelNeverDecides` of `list` says that on good form T is enough)
 unfoldable pub rises : Table → (fuel row : ℕ) → Bool
 rises t zero row = eqb row tail
 rises t (suc fuel) row = eqb row tail || (below t row (behind t row) && rises t fuel (behind t row))
 
--- a key, if it counts, before those behind it
+-- a key, if its row is live, before those behind it
 abbrev pub withKey : Bool → ℕ → List ℕ → List ℕ
 withKey true key later = key ∷ later
 withKey false key later = later

@@ -58,7 +58,8 @@ fn one_if(live: bool) -> usize
     if live { 1 } else { 0 }
 }
 
-// How many live keys are on the chain from row 1 to row 2.
+// How many live keys are on the chain from row 1 to row 2, in at most so many rows.
+// Tests nothing: neither good form nor that the chain rises.
 pub fn live_count(kind: &[u8], key: &[u32], next: &[u16], back: &[u16], taken: u16) -> usize
     ensures { λ r. ⌜ r ≡ length (liveFrom (before kind key next back) taken headNxt) ⌝ }
 {
@@ -88,6 +89,7 @@ fn put_if(live: bool, places: &mut [u32], place: usize, wanted: u32)
 }
 
 // Writes the live keys on the chain from row 1 to row 2 into the first places; past the last place nothing is written.
+// Tests nothing: neither good form, nor that the chain rises, nor that there are places enough.
 pub fn write_live(
     kind: &[u8],
     key: &[u32],

@@ -180,7 +180,9 @@ module _ (m : Machine) where
   good h =
       let all = sentences h in
       let count = and-parts (leb 1 (m .state .count)) (leb (m .state .count) 16) (all .6) in
-      let tally = and-parts (leb (m .state .tallies .won + m .state .tallies .lost) (m .state .tallies .moves)) (leb (m .state .tallies .moves) 16777216) (all .8) in
+      let tally =
+      and-parts (leb (m .state .tallies .won + m .state .tallies .lost) (m .state .tallies .moves)) (leb (m .state .tallies .moves) 16777216)
+      (all .8) in
       record {
         rows = rows-of h;
         some = leb-true 1 (m .state .count) (count .0);

@@ -1,4 +1,4 @@
--- Good form as one test that computes: a definition for each thing it asks, in order (document 01, "Rows and parties").
+-- Good form as one test that computes: a definition for each thing that it asks (document 01, "Rows and parties").
 use mathlib.Core.List.{List}
 use mathlib.Core.Bool.{Bool, true, false, not, cond, _&&_, _||_}
 use Prim.Native.Nat.{ℕ, _+_}

@@ -47,7 +47,7 @@ struct Kept {
     r: bool,
 }
 
-// Whether the columns, given by their lengths, agree.
+// Whether the columns, given by their lengths, agree. Not that they have 4 to 4,096 rows (1).
 pub fn columns_agree(kind: usize, key: usize, next: usize, back: usize) -> bool
     ensures { λ r. ⌜ r ≡ columnsAgree kind key next back ⌝ }
 {
@@ -225,7 +225,7 @@ fn removing(place: Place) -> bool
     call.is_remove()
 }
 
-// Whether what has no use is 0; a marked REMOVE has a use for r wherever it is.
+// Whether values that are not kept are 0; a marked REMOVE keeps r wherever it is.
 fn others_zero(kept: Kept, party: Party) -> bool
     ensures { λ r. ⌜ r ≡ othersZero kept party ⌝ }
 {
@@ -347,7 +347,7 @@ fn good_parties(state: State) -> bool
     count_fits(state.count) & parties_fit(state) & tallies_fit(tallies)
 }
 
-// Whether the columns and the state have good form.
+// Whether the columns and the state have good form. Refuses nothing, and does not ask for at most 4,096 rows (1).
 pub fn good_form(kind: &[u8], key: &[u32], next: &[u16], back: &[u16], state: State) -> bool
     ensures { λ r. ⌜ r ≡ goodForm (machine (before kind key next back) state) ⌝ }
 {

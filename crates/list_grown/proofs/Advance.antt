@@ -29,7 +29,7 @@ use Rattle.list_unchecked.specs.Unchecked.{starting}
 use Rattle.list_grown.proofs.Places.{looking}
 use Rattle.list_party.specs.State.{withParty, withTaken, tallied}
 use Rattle.list_moves.specs.declared.Moved.{Moved}
-use Rattle.list_moves.specs.Moves.{placeOf}
+use Rattle.list_moves.specs.Moves.{moveAt}
 use Rattle.list_unchecked.specs.Unchecked.{Machine, machine, partyOf, carried}
 use Rattle.list_form.specs.Form.{rowsIn}
 use Rattle.calls.specs.Calls.{isContains}
@@ -60,7 +60,7 @@ asking m i key = machine (m .table) (withTaken (withParty (m .state) i (looking 
 -- a move; a call with a spare; a call that takes a row; a CONTAINS
 pub data Advances (m : Machine) (i : ℕ) : Machine → Deed → Type 0 where
   moves : isIdle (partyOf m i .place) ≡ false →
-      Advances m i (carried m i (placeOf (partyOf m i .place) (m .table) (partyOf m i)) .after) (deedAt (partyOf m i .place) (m .table) (partyOf m i))
+      Advances m i (carried m i (moveAt (partyOf m i .place) (m .table) (partyOf m i)) .after) (deedAt (partyOf m i .place) (m .table) (partyOf m i))
   spares : (call : Call) (key : ℕ) → isContains call ≡ false → key < 4294967296 → partyOf m i .place ≡ Idle → partyOf m i .unpublished ≡ true →
       Advances m i (begun m i (partyOf m i .own) (m .state .taken) call key) called
   takes : (call : Call) (key : ℕ) → isContains call ≡ false → key < 4294967296 → partyOf m i .place ≡ Idle → partyOf m i .unpublished ≡ false →
@@ -278,7 +278,8 @@ module _ (orphan : ℕ → Bool) (m : Machine) (v : Inv (viewOf orphan m)) (z : 
   moved-on : (moved : Moved) (deed : Deed) → m .state .tallies .moves < 4294967295 → m .state .tallies .won < 4294967295 →
       m .state .tallies .lost < 4294967295 →
       Booked w (m .table) (partyOf m i) (partyOf m i .place) moved deed →
-      Steady (viewOf orphan m) (viewOf orphan (carried m i moved .after)) (changeOf deed (partyOf m i .own)) → Advanced orphan m i (carried m i moved .after) deed
+      Steady (viewOf orphan m) (viewOf orphan (carried m i moved .after)) (changeOf deed (partyOf m i .own)) →
+      Advanced orphan m i (carried m i moved .after) deed
   moved-on moved deed a b c books steady =
       let st = withParty (m .state) i (moved .party) in
       let parties : tallied (moved .access) st .parties ≡ st .parties = same-parties (moved .access) st in

@@ -25,7 +25,7 @@ use Rattle.list.specs.Engine.{liveKeys, callOf, moveTests}
 use Rattle.list.specs.Run.{calls, quiet, eventOf, run}
 use Rattle.list_world.proofs.Live.{LiveRank}
 use Rattle.logic.specs.Keys.{has}
-use Rattle.list_grown.specs.History.{History, keyFits, isAccepted, accepts, acceptsAll, AllAccepted, start, grown}
+use Rattle.list_grown.specs.History.{History, keyIs32, isAccepted, accepts, acceptsAll, AllAccepted, start, grown}
 use Rattle.list_grown.specs.Answers.{Pending, call, atCall, atAnswer, Answered, Present, Excused, TakenOut, Answers}
 use Rattle.list_grown.proofs.Machine.{worldOf}
 use Rattle.logic.proofs.Cases.{by-test}
@@ -71,7 +71,7 @@ module _ (m : Machine) (i k : ℕ) where
   call-leaves : (code : ℕ) → accepts m (calls i code k) ≡ true → eventOf m (calls i code k) .memory ≡ uncheckedCall m i (callNamed code) k
   call-leaves code e =
       let ok : isAccepted (quiet (callOf m i code k .answer)) ≡ true =
-      and-right (keyFits (calls i code k)) (isAccepted (quiet (callOf m i code k .answer))) e in
+      and-right (keyIs32 (calls i code k)) (isAccepted (quiet (callOf m i code k .answer))) e in
       ap (λ l. l .memory) (call-is m i code k (call-tests m i code k ok))
 
 -- ---- what the states since the call make of the answer

@@ -15,7 +15,7 @@ use Rattle.list_rows.specs.declared.Write.the-variants.{Untouched, Link, Splice
 use Rattle.list_rows.specs.Table.{Table, backAt, isSplice, withRow}
 use Rattle.list_rows.specs.Writes.{written}
 use Rattle.list_unchecked.specs.Unchecked.{Machine, partyOf, begunOf, uncheckedCall, uncheckedMove}
-use Rattle.list_moves.specs.Moves.{placeOf}
+use Rattle.list_moves.specs.Moves.{moveAt}
 use Rattle.list_fresh.specs.Fresh.{freshTable}
 use Rattle.list_form.specs.Form.{rowsIn}
 use Rattle.list.specs.Engine.{callTests, callOf, moveTests, accepting, moveOf}
@@ -86,7 +86,7 @@ event-keeps m (calls party code key) b =
     (write-keeps (begunOf (m .state) (partyOf m party) (callNamed code) key .write) (m .table) b)
 event-keeps m (moves party) b =
     leaving-keeps (moveTests m party) m (accepting (uncheckedMove m party)) b
-    (write-keeps (placeOf (partyOf m party .place) (m .table) (partyOf m party) .write) (m .table) b)
+    (write-keeps (moveAt (partyOf m party .place) (m .table) (partyOf m party) .write) (m .table) b)
 
 run-keeps : (history : History) (m : Machine) → Backed (m .table) → Backed (run m history .table)
 unfolding run

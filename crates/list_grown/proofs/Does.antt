@@ -39,7 +39,7 @@ use Rattle.list_moves.specs.Moves.{
   backOf,
   lookOnOf,
   lookOf,
-  placeOf,
+  moveAt,
 }
 use Rattle.list_grown.proofs.Places.{wins, loses}
 use Rattle.list_world.proofs.World.{World}
@@ -183,7 +183,7 @@ module _ (t : Table) (q : Party) where
   swap {l} {won} {back} {deed} row expected f g = by-test (λ b. Does l (cond b won back) (cond b deed lost)) (eqb (nextAt t row) expected)
       (λ e. f (eqb-true (nextAt t row) expected e)) (λ e. g (eqb-false (nextAt t row) expected e))
 
-  pub does : (w : World) (l : Place) → isIdle l ≡ false → At w q l → Does l (placeOf l t q) (deedAt l t q)
+  pub does : (w : World) (l : Place) → isIdle l ≡ false → At w q l → Does l (moveAt l t q) (deedAt l t q)
   unfolding walkOf skipOf addSwapOf markOf rereadOf cleanOf backOf lookOf prepareOf
   does w Idle busy a = absurd (true≢false busy)
   does w (Walk Add k) busy a = by-test (λ b. Does (Walk Add k) (cond b (onwardOf t q Add k) (landedAddOf t q k)) read) (belowKey t (q .c) k)

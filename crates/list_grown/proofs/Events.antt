@@ -20,7 +20,7 @@ use Rattle.list_party.specs.declared.Place.{Place}
 use Rattle.list_party.specs.declared.Place.the-variants.{Idle, Walk, Skip, AddSwap, Mark, Reread, Clean, Back, Look}
 use Rattle.calls.specs.Tallies.{oneMore}
 use Rattle.calls.specs.Words.{Word, wordOf}
-use Rattle.list_moves.specs.Moves.{placeOf}
+use Rattle.list_moves.specs.Moves.{moveAt}
 use Rattle.list_unchecked.specs.Unchecked.{Machine, partyOf, startOf, begunOf, started, uncheckedCall, uncheckedMove}
 use Rattle.list_form.specs.Form.{rowsIn, goodForm}
 use Rattle.calls.specs.Calls.{isContains, callNamed}
@@ -73,7 +73,7 @@ module _ (m : Machine) (i : ℕ) where
 
   unchecked-fits : badTable (m .table) ≡ false → badTable (uncheckedMove m i .after .table) ≡ false
   unfolding uncheckedMove
-  unchecked-fits fits = same-fits (placeOf (partyOf m i .place) (m .table) (partyOf m i) .write) (m .table) ∙ fits
+  unchecked-fits fits = same-fits (moveAt (partyOf m i .place) (m .table) (partyOf m i) .write) (m .table) ∙ fits
 
   unchecked-event : isIdle (partyOf m i .place) ≡ false → Advances m i (uncheckedMove m i .after) (deedOf m (moves i))
   unfolding uncheckedMove

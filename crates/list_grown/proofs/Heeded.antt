@@ -11,7 +11,7 @@ use Rattle.list_unchecked.specs.Unchecked.{Machine}
 use Rattle.list.specs.Engine.{callOf, moveOf}
 use Rattle.list.specs.Run.{Event, calls, moves, quiet, eventOf, run}
 use Rattle.list.proofs.Promises.{refused-call-leaves, refused-move-leaves}
-use Rattle.list_grown.specs.History.{keyFits, isAccepted, accepts, acceptsAll, heeded, keysFit}
+use Rattle.list_grown.specs.History.{keyIs32, isAccepted, accepts, acceptsAll, heeded, keysAre32}
 use Rattle.list_grown.specs.Demands.{Heeded}
 use Rattle.logic.proofs.Cases.{by-test}
 
@@ -30,18 +30,18 @@ second-fails : (a b : Bool) → a ≡ true → a && b ≡ false → b ≡ false
 second-fails true b h e = e
 second-fails false b h e = absurd (true≢false (sym h))
 
-stays : (m : Machine) (event : Event) → keyFits event ≡ true → accepts m event ≡ false → eventOf m event .memory ≡ m
+stays : (m : Machine) (event : Event) → keyIs32 event ≡ true → accepts m event ≡ false → eventOf m event .memory ≡ m
 stays m (calls i code key) fits e =
     call-stays m (callOf m i code key .answer) (callOf m i code key .memory) (λ number is. refused-call-leaves m i code key number is)
-    (second-fails (keyFits (calls i code key)) (isAccepted (quiet (callOf m i code key .answer))) fits e)
+    (second-fails (keyIs32 (calls i code key)) (isAccepted (quiet (callOf m i code key .answer))) fits e)
 stays m (moves i) fits e = move-stays m (moveOf m i .answer) (moveOf m i .memory) (λ number is. refused-move-leaves m i number is) e
 
 pub all-heeded : Heeded
-unfolding run acceptsAll heeded keysFit
+unfolding run acceptsAll heeded keysAre32
 all-heeded m [] fit = (refl, refl)
 all-heeded m (first ∷ rest) fit =
-    let fits : keyFits first ≡ true = and-left (keyFits first) (keysFit rest) fit in
-    let later : keysFit rest ≡ true = and-right (keyFits first) (keysFit rest) fit in
+    let fits : keyIs32 first ≡ true = and-left (keyIs32 first) (keysAre32 rest) fit in
+    let later : keysAre32 rest ≡ true = and-right (keyIs32 first) (keysAre32 rest) fit in
     let m′ = eventOf m first .memory in
     by-test (λ b. accepts m first ≡ b → (run m′ rest ≡ run m (cond b (first ∷ heeded m′ rest) (heeded m rest)))
     × (acceptsAll m (cond b (first ∷ heeded m′ rest) (heeded m rest)) ≡ true))

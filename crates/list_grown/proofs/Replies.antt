@@ -12,7 +12,7 @@ use Rattle.list_party.specs.declared.Party.{Party}
 use Rattle.calls.specs.declared.Said.{Said}
 use Rattle.calls.specs.declared.Said.the-variants.{Nothing, Yes, No}
 use Rattle.list_moves.specs.declared.Moved.{Moved}
-use Rattle.list_moves.specs.Moves.{placeOf}
+use Rattle.list_moves.specs.Moves.{moveAt}
 use Rattle.list_unchecked.specs.Unchecked.{Machine, partyOf}
 use Rattle.list_party.specs.Party.{isIdle}
 use Rattle.list_world.proofs.World.{World, Removed, Open, Reach, Proper, Intact}
@@ -89,7 +89,7 @@ pub data Told (w : World) (q : Party) : Place → Said → Type 0 where
 
 -- what a move of the party says
 abbrev pub saidBy : Machine → ℕ → Said
-saidBy m i = placeOf (partyOf m i .place) (m .table) (partyOf m i) .said
+saidBy m i = moveAt (partyOf m i .place) (m .table) (partyOf m i) .said
 
 module _ (orphan : ℕ → Bool) (m : Machine) (v : Inv (viewOf orphan m)) (i : ℕ) where
   abbrev w : World

@@ -11,7 +11,7 @@ use Rattle.logic.proofs.Tests.{and-left, and-right}
 use Rattle.calls.specs.declared.Call.{Call}
 use Rattle.list_party.specs.declared.Party.{Party}
 use Rattle.calls.specs.declared.Said.the-variants.{Nothing}
-use Rattle.list_moves.specs.Moves.{placeOf}
+use Rattle.list_moves.specs.Moves.{moveAt}
 use Rattle.list_unchecked.specs.Unchecked.{Machine, partyOf, uncheckedMove}
 use Rattle.calls.specs.Calls.{isRemove}
 use Rattle.list_party.specs.Party.{isIdle}
@@ -94,11 +94,11 @@ module _ (parties i : ℕ) (m : Machine) (s : Healthy none parties m) (e : accep
   busy : isIdle (q .place) ≡ false
   busy = move-asked m i (move-tests m i e) .1
 
-  moved-is : q′ ≡ placeOf (q .place) (m .table) q .party
+  moved-is : q′ ≡ moveAt (q .place) (m .table) q .party
   unfolding uncheckedMove
-  moved-is = rw (move-is m i (move-tests m i e)) (party-after m i (inside none parties m (moves i) s e) (placeOf (q .place) (m .table) q))
+  moved-is = rw (move-is m i (move-tests m i e)) (party-after m i (inside none parties m (moves i) s e) (moveAt (q .place) (m .table) q))
 
-  it : Does (m .table) q (q .place) (placeOf (q .place) (m .table) q) (deedOf m (moves i))
+  it : Does (m .table) q (q .place) (moveAt (q .place) (m .table) q) (deedOf m (moves i))
   it = does (m .table) q (worldOf none m) (q .place) busy (s .inv .holds i)
 
   own-goes : {k : ℕ} {call : Call} → Serves q k call (q .place) → Goes k call (deedOf m (moves i)) (saidBy m i) q′

@@ -18,7 +18,7 @@ use Rattle.list_grown.proofs.Places.{looking}
 use Rattle.calls.specs.declared.Said.{Said}
 use Rattle.calls.specs.declared.Said.the-variants.{Nothing, Yes, No}
 use Rattle.list_moves.specs.declared.Moved.{Moved}
-use Rattle.list_moves.specs.Moves.{placeOf}
+use Rattle.list_moves.specs.Moves.{moveAt}
 use Rattle.list_unchecked.specs.Unchecked.{Machine, partyOf, carried}
 use Rattle.list_world.proofs.World.{World, Open, Reach, Proper, Intact, succ}
 use Rattle.list_world.proofs.Live.{LiveRank, Change, gain, lose, Effect}
@@ -175,7 +175,7 @@ module _ (orphan : ℕ → Bool) (m : Machine) (v : Inv (viewOf orphan m)) (i : 
     own-event : {K : ℕ} {m′ : Machine} {deed : Deed} → Advances m i m′ deed → Advanced orphan m i m′ deed → saidBy m i ≡ Nothing → Tracks w q K →
         LiveRank (worldOf orphan m′) K → Tracks (worldOf orphan m′) (partyOf m′ i) K
     own-event (moves b) t e s l =
-        let moved = placeOf (q .place) (m .table) q in
+        let moved = moveAt (q .place) (m .table) q in
         own-move (carried m i moved .after) (party-after m i h moved) (does (m .table) q w (q .place) b (v .holds i)) (t .steady) (subst Going (sym e) tt) s l
     own-event (spares call key is fits idle f) t e s l = absurd (not-idle (s .seeks) idle)
     own-event (takes call key is fits idle f room) t e s l = absurd (not-idle (s .seeks) idle)

@@ -19,7 +19,8 @@ callsNot party [] = true
 callsNot party (calls other code key ∷ rest) = not (eqb other party) && callsNot party rest
 callsNot party (moves other ∷ rest) = callsNot party rest
 
--- a call in a history: events, the call, and events in which the party does not call again
+-- a call in a history: what came to set-up and for how many parties, events, the call, and events since, in which the
+-- party does not call again (`waits` of `Answered` asks that)
 pub record Pending : Type 0 where
   pub came : Machine
   pub parties : ℕ

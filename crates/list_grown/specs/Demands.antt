@@ -16,14 +16,14 @@ use Rattle.logic.specs.Sum.{oneIf, sum}
 use Rattle.list.specs.Engine.{badTable, liveKeys, placesWith, listOf}
 use Rattle.list.specs.Run.{Event, eventOf, run}
 use Rattle.logic.specs.Keys.{Rising, has, placed, without}
-use Rattle.list_grown.specs.History.{History, accepts, AllAccepted, heeded, keysFit, start, Grows, grown}
+use Rattle.list_grown.specs.History.{History, accepts, AllAccepted, heeded, keysAre32, start, Grows, grown}
 use Rattle.list_grown.specs.Deeds.{Deed, called, read, addWon, markWon, cleanWon, lost, deedOf, countsOf}
 
 -- ---- refused events
 
 -- they leave no trace: a history with keys of 32 bits leaves the machine that its accepted events alone leave
 abbrev pub Heeded : Type 0
-Heeded = (m : Machine) (history : History) → keysFit history ≡ true →
+Heeded = (m : Machine) (history : History) → keysAre32 history ≡ true →
     (run m history ≡ run m (heeded m history)) × AllAccepted m (heeded m history)
 
 -- ---- good form

@@ -15,9 +15,9 @@ abbrev pub History : Type 0
 History = List Event
 
 -- the key of a call is a number of 32 bits, as everywhere in the code
-abbrev pub keyFits : Event → Bool
-keyFits (calls party code key) = ltb key 4294967296
-keyFits (moves party) = true
+abbrev pub keyIs32 : Event → Bool
+keyIs32 (calls party code key) = ltb key 4294967296
+keyIs32 (moves party) = true
 
 abbrev pub isAccepted : Answer Word → Bool
 isAccepted (accepted word) = true
@@ -25,7 +25,7 @@ isAccepted (refused number) = false
 
 -- the key fits, and the engine does not refuse the event
 abbrev pub accepts : Machine → Event → Bool
-accepts m event = keyFits event && isAccepted (eventOf m event .answer)
+accepts m event = keyIs32 event && isAccepted (eventOf m event .answer)
 
 -- it accepts every event of a history
 unfoldable pub acceptsAll : Machine → History → Bool
@@ -40,9 +40,9 @@ unfoldable pub heeded : Machine → History → History
 heeded m [] = []
 heeded m (first ∷ rest) = cond (accepts m first) (first ∷ heeded (eventOf m first .memory) rest) (heeded m rest)
 
-unfoldable pub keysFit : History → Bool
-keysFit [] = true
-keysFit (first ∷ rest) = keyFits first && keysFit rest
+unfoldable pub keysAre32 : History → Bool
+keysAre32 [] = true
+keysAre32 (first ∷ rest) = keyIs32 first && keysAre32 rest
 
 -- ---- lists grown from set-up
 

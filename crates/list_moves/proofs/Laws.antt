@@ -9,7 +9,7 @@ use Rattle.list_party.specs.declared.Place.{Place}
 use Rattle.list_party.specs.declared.Party.{Party}
 use Rattle.list_rows.specs.Table.{Table}
 use Rattle.list_moves.specs.declared.Moved.{Moved}
-use Rattle.list_moves.specs.Moves.{landedUnmarkedOf, landedMarkedOf, landedRemoveOf, placeOf}
+use Rattle.list_moves.specs.Moves.{landedUnmarkedOf, landedMarkedOf, landedRemoveOf, moveAt}
 
 -- ---- tests: what was read, and what the test found, tell the test of the definition
 
@@ -21,8 +21,8 @@ differs {read} {entry} {expected} is other = ne-eqb entry expected (λ (e : entr
 
 -- ---- the move of a place
 
-pub at-place : {moved : Moved} (place : Place) (t : Table) (q : Party) → q .place ≡ place → moved ≡ placeOf place t q → moved ≡ placeOf (q .place) t q
-at-place place t q is so = so ∙ sym (ap (λ (w : Place). placeOf w t q) is)
+pub at-place : {moved : Moved} (place : Place) (t : Table) (q : Party) → q .place ≡ place → moved ≡ moveAt place t q → moved ≡ moveAt (q .place) t q
+at-place place t q is so = so ∙ sym (ap (λ (w : Place). moveAt w t q) is)
 
 -- ---- a landed REMOVE, by whether it is marked
 

@@ -1,4 +1,4 @@
--- The moves, a definition for each place (document 01, "The moves"). What p, n, c, s, r, own are: list_party/src/lib.rt.
+-- The moves, one definition for each place (document 01, "The moves"); p, n, c, s, r, own: see list_party/src/lib.rt.
 use mathlib.Core.Bool.{not, cond, _&&_, _||_}
 use Prim.Native.Nat.{ℕ}
 use lib.Dec.{eqb}
@@ -24,7 +24,7 @@ use Rattle.list_moves.specs.declared.Swap.{Swap}
 abbrev pub goesOn : Party → Moved
 goesOn party = record { party = party; said = Nothing; access = Read; write = Untouched }
 
--- a read, and the own row, to which nobody is led yet, is made ready for a swap
+-- a read, and the unpublished own row is made ready for a swap
 abbrev pub readies : Party → Write → Moved
 readies party write = record { party = party; said = Nothing; access = Read; write = write }
 
@@ -39,7 +39,8 @@ swapOf t swap won said lost =
     (record { party = won; said = said; access = Won; write = Link (swap .row) (swap .to) })
     (record { party = lost; said = Nothing; access = Lost; write = Untouched })
 
--- after a lost ADDSWAP or CLEAN: go to BACK, with p, and with r if the REMOVE is marked
+-- After a lost ADDSWAP or CLEAN: go to BACK, with p. Here, in WALK and in BACK r goes along: a marked REMOVE keeps it,
+-- and by good form it is 0 for any other.
 abbrev pub toBack : Party → Call → ℕ → Party
 toBack q call key = goesTo q (Back call key) (record { p = q .p; n = 0; c = 0; s = 0; r = q .r })
 
@@ -91,7 +92,7 @@ module _ (t : Table) (q : Party) where
   unfoldable pub landedRemoveOf : ℕ → Moved
   landedRemoveOf key = cond (q .unpublished) (landedUnmarkedOf key) (landedMarkedOf key)
 
-  -- A CONTAINS has landed. Answer yes exactly if c equals the key and s is not a splice.
+  -- A CONTAINS has landed, at LOOK. Answer yes exactly if c equals the key and s is not a splice.
   unfoldable pub landedContainsOf : ℕ → Moved
   landedContainsOf key = cond (equalsKey t (q .c) key && not (isSplice t s-of-c)) (answers q Yes) (answers q No)
 
@@ -159,13 +160,13 @@ module _ (t : Table) (q : Party) where
   lookOf call key = cond (belowKey t (q .c) key) (lookOnOf call key) (landedContainsOf key)
 
 -- the move of a party at its place; an idle party makes no access
-abbrev pub placeOf : Place → Table → Party → Moved
-placeOf Idle t q = record { party = q; said = Nothing; access = None; write = Untouched }
-placeOf (Walk call key) t q = walkOf t q call key
-placeOf (Skip call key) t q = skipOf t q call key
-placeOf (AddSwap call key) t q = addSwapOf t q call key
-placeOf (Mark call key) t q = markOf t q call key
-placeOf (Reread call key) t q = rereadOf t q call key
-placeOf (Clean call key) t q = cleanOf t q call key
-placeOf (Back call key) t q = backOf t q call key
-placeOf (Look call key) t q = lookOf t q call key
+abbrev pub moveAt : Place → Table → Party → Moved
+moveAt Idle t q = record { party = q; said = Nothing; access = None; write = Untouched }
+moveAt (Walk call key) t q = walkOf t q call key
+moveAt (Skip call key) t q = skipOf t q call key
+moveAt (AddSwap call key) t q = addSwapOf t q call key
+moveAt (Mark call key) t q = markOf t q call key
+moveAt (Reread call key) t q = rereadOf t q call key
+moveAt (Clean call key) t q = cleanOf t q call key
+moveAt (Back call key) t q = backOf t q call key
+moveAt (Look call key) t q = lookOf t q call key

@@ -31,7 +31,7 @@ ghost use Rattle.list_moves.specs.Moves.{
   backOf,
   lookOnOf,
   lookOf,
-  placeOf,
+  moveAt,
 };
 
 // What a move comes to: the party after it, what is said, what came of the access, what is written.
@@ -332,7 +332,7 @@ fn skip(
     prepare(party, call, wanted)
 }
 
-// ADDSWAP: the own row goes in between p and n, unless something else stands behind p by now.
+// ADDSWAP: the own row goes in behind p, unless something else than n stands there by now.
 fn add_swap(
     kind: &[u8],
     key: &[u32],
@@ -452,7 +452,7 @@ fn clean(
     try_swap(kind, key, next, back, what, party.idling(), Said::Yes, lost)
 }
 
-// BACK: from a removed p to the row that its splice names, and from there the walk starts again.
+// BACK: from a removed p to the row that its splice names, and stay; from any other p the walk starts again.
 fn go_back(
     kind: &[u8],
     key: &[u32],
@@ -466,9 +466,9 @@ fn go_back(
 {
     let n = read_u16(next, party.p);
     if Row(n).is_splice(kind) {
-        let behind = read_u16(back, n);
+        let earlier = read_u16(back, n);
         let kept = Values {
-            p: behind,
+            p: earlier,
             n: 0,
             c: 0,
             s: 0,
@@ -540,7 +540,7 @@ fn look(
 
 // The move of a party at its place; an idle one makes no access. Nothing is tested or refused.
 pub fn place_move(kind: &[u8], key: &[u32], next: &[u16], back: &[u16], party: Party) -> Moved
-    ensures { λ r. ⌜ r ≡ placeOf (party .place) (before kind key next back) party ⌝ }
+    ensures { λ r. ⌜ r ≡ moveAt (party .place) (before kind key next back) party ⌝ }
 {
     let place = party.place;
     match place {

@@ -21,9 +21,9 @@ use Rattle.list_party.specs.declared.Values.{Values}
 use Rattle.list_party.specs.declared.Party.{Party}
 
 -- a record, from its place, the values that it keeps there, and its own row
-abbrev pub party : Place → Values → (own : ℕ) (unpublished : Bool) → Party
-party at v own hidden =
-    record { place = at; p = v .p; n = v .n; c = v .c; s = v .s; r = v .r; own = own; unpublished = hidden }
+abbrev pub partyRecord : Place → Values → (own : ℕ) (unpublished : Bool) → Party
+partyRecord at v own unpublished =
+    record { place = at; p = v .p; n = v .n; c = v .c; s = v .s; r = v .r; own = own; unpublished = unpublished }
 
 abbrev pub noValues : Values
 noValues = record { p = 0; n = 0; c = 0; s = 0; r = 0 }
@@ -33,22 +33,22 @@ valuesOf q = record { p = q .p; n = q .n; c = q .c; s = q .s; r = q .r }
 
 -- idle without a spare
 abbrev pub blank : Party
-blank = party Idle noValues 0 false
+blank = partyRecord Idle noValues 0 false
 
--- an unpublished own stays with the party that has answered; a published one is in the list
+-- an unpublished own stays with the party that has answered; a published one is no longer its own
 abbrev pub spareOf : Party → ℕ
 spareOf q = cond (q .unpublished) (q .own) 0
 
 abbrev pub idling : Party → Party
-idling q = party Idle noValues (spareOf q) (q .unpublished)
+idling q = partyRecord Idle noValues (spareOf q) (q .unpublished)
 
 -- the same record, own published
 abbrev pub published : Party → Party
-published q = party (q .place) (valuesOf q) (q .own) false
+published q = partyRecord (q .place) (valuesOf q) (q .own) false
 
 -- the party at a place with these values; its own row stays with it
 abbrev pub goesTo : Party → Place → Values → Party
-goesTo q place values = party place values (q .own) (q .unpublished)
+goesTo q place values = partyRecord place values (q .own) (q .unpublished)
 
 -- ---- what a place tells
 
@@ -63,7 +63,7 @@ isIdle (Clean call key) = false
 isIdle (Back call key) = false
 isIdle (Look call key) = false
 
--- what a party was asked; for an idle one, which was asked nothing and never answers, contains 0 stands in
+-- what a party was asked; for an idle one, which was asked nothing and is never answered, contains 0 stands in
 abbrev pub askedAt : Place → Asked
 askedAt Idle = asked Contains 0
 askedAt (Walk call key) = asked call key

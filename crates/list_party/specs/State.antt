@@ -1,4 +1,4 @@
--- The state: the party table, how many parties there are, T, the tallies (document 01, "Rows and parties").
+-- The state: the party table, P (`count`), T (`taken`), the tallies (document 01, "Rows and parties").
 use Prim.Native.Nat.{ℕ}
 use lib.ListN.{set, getD, replicate}
 use Rattle.calls.specs.declared.Access.{Access}

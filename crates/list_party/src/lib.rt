@@ -43,7 +43,7 @@ pub struct Party {
     pub c: u16,
     pub s: u16,
     pub r: u16,
-    // the row of the call: an item for an ADD, the splice for a REMOVE; of an idle or looking party its spare
+    // the row of the call: an item, which a REMOVE makes a splice before MARK; idle or looking, the spare, or 0
     pub own: u16,
     // nobody has been led to own yet
     pub unpublished: bool,
@@ -96,6 +96,7 @@ impl Place {
     }
 }
 
+// None of these tests or refuses anything: they make records and states of any numbers.
 impl Party {
     // Idle without a spare.
     pub fn blank() -> Party
@@ -170,13 +171,14 @@ impl Party {
     }
 }
 
-// The number of rows taken with one more; at the largest number it stays.
+// The number of rows taken with one more; at the largest number it stays. Does not ask how many rows there are (7).
 pub fn one_taken(taken: u16) -> u16
     ensures { λ r. ⌜ r ≡ oneMore 65535 taken ⌝ }
 {
     if taken < 65535 { taken + 1 } else { taken }
 }
 
+// Nor does one of these.
 impl State {
     // So many parties at rest and so many rows taken, nothing counted yet. Of no party and no row: what a program has
     // before its set-up.

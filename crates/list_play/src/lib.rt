@@ -128,7 +128,7 @@ fn play_call(
     }
 }
 
-// The party that a line names.
+// The party that a line names; where it names none, 0.
 pub fn party_in(line: Line) -> u32
     ensures { λ r. ⌜ r ≡ partyIn line ⌝ }
 {

@@ -13,21 +13,21 @@ use Rattle.columns.specs.Column.{zeros}
 use Rattle.list_rows.specs.Table.{tab}
 use Rattle.list.specs.Engine.{setUpOf}
 use Rattle.list.specs.Run.{run, unset, fresh}
-use Rattle.list_grown.specs.History.{keysFit}
+use Rattle.list_grown.specs.History.{keysAre32}
 use Rattle.report.specs.Lines.{badLine}
 use Rattle.script.specs.declared.Head.{Head}
 use Rattle.script.specs.Head.{headOf}
 use Rattle.script.specs.Body.{mostLines, bodyOf, badFrom, firstBad}
 use Rattle.script.proofs.Progress.{good-head}
 use Rattle.logic.proofs.Cases.{by-test}
-use Rattle.list_replay.specs.Output.{Engine, checked, plain, played, judged, outputBy}
+use Rattle.list_replay.specs.Output.{Runner, checked, plain, played, judged, outputBy}
 use Rattle.list_replay.specs.Claims.{SameOutput, endOf, ListingStands}
 use Rattle.list_replay.proofs.Sound.{Sound, sound-listing}
 use Rattle.list_replay.proofs.Same.{body-fits, SameRun, run-same, played-same}
 
 -- ---- the three cases
 
-module _ (e : Engine) (text : List ℕ) where
+module _ (e : Runner) (text : List ℕ) where
   pub out-large : 65536 < length text → badLine 0 ≡ outputBy e text
   unfolding outputBy
   out-large long = rw (lt-ltb 65536 (length text) long)
@@ -79,7 +79,7 @@ module _ (text : List ℕ) (short : length text ≤ 65536) (good : headOf text .
   rows-fit = good-head text (omega arith) good .3
 
   pub sound-fresh : Sound (fresh (headOf text .nodes) (headOf text .parties))
-  unfolding run keysFit
+  unfolding run keysAre32
   sound-fresh =
       let rows = headOf text .nodes in
       let h = good-head text (omega arith) good in

@@ -18,7 +18,7 @@ use Rattle.list_chain.specs.Chain.{withKey, isLive, behind, liveFrom}
 use Rattle.list.specs.Engine.{badTable, setUpOf, liveKeys, placesWith, listOf}
 use Rattle.list.specs.Run.{Event, eventOf, run}
 use Rattle.list.proofs.Laws.{table-fits}
-use Rattle.list_grown.specs.History.{History, keyFits, keysFit, heeded, start, Grows, grown}
+use Rattle.list_grown.specs.History.{History, keyIs32, keysAre32, heeded, start, Grows, grown}
 use Rattle.list_grown.proofs.Heeded.{all-heeded}
 use Rattle.list_grown.proofs.Demands.{good-form-kept, lists-live-keys}
 use Rattle.logic.proofs.Cases.{on-cond}
@@ -31,7 +31,7 @@ pub record Sound (m : Machine) : Type 0 where
   pub parties : ℕ
   pub history : History
   pub set : setUpOf came parties .answer ≡ passed
-  pub fit : keysFit history ≡ true
+  pub fit : keysAre32 history ≡ true
   pub path : m ≡ run (start came parties) history
 
 -- ---- one event more
@@ -41,13 +41,13 @@ unfolding run
 run-more m [] event = refl
 run-more m (first ∷ rest) event = run-more (eventOf m first .memory) rest event
 
-fit-more : (history : History) (event : Event) → keysFit history ≡ true → keyFits event ≡ true → keysFit (history ++ (event ∷ [])) ≡ true
-unfolding keysFit
+fit-more : (history : History) (event : Event) → keysAre32 history ≡ true → keyIs32 event ≡ true → keysAre32 (history ++ (event ∷ [])) ≡ true
+unfolding keysAre32
 fit-more [] event h e = rw e
 fit-more (first ∷ rest) event h e =
-    and-both (and-left (keyFits first) (keysFit rest) h) (fit-more rest event (and-right (keyFits first) (keysFit rest) h) e)
+    and-both (and-left (keyIs32 first) (keysAre32 rest) h) (fit-more rest event (and-right (keyIs32 first) (keysAre32 rest) h) e)
 
-pub sound-event : (m : Machine) (event : Event) → Sound m → keyFits event ≡ true → Sound (eventOf m event .memory)
+pub sound-event : (m : Machine) (event : Event) → Sound m → keyIs32 event ≡ true → Sound (eventOf m event .memory)
 sound-event m event s e =
     record {
       came = s .came;

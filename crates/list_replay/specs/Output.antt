@@ -19,12 +19,12 @@ use Rattle.list_play.specs.Play.{TakesEvent, plainEvent, partyIn, lineOf}
 
 -- ---- what an engine has to give: how it takes an event, and the keys to print at the end
 
-pub record Engine : Type 0 where
+pub record Runner : Type 0 where
   pub takes : TakesEvent
   pub keys : Machine → List ℕ
 
 -- the engine of document 01: calls and moves with all their tests, and the live keys
-abbrev pub checked : Engine
+abbrev pub checked : Runner
 checked = record { takes = eventOf; keys = liveKeys }
 
 -- what a listing has put into its places
@@ -41,7 +41,7 @@ listed m = keysLeft (listOf m (zeros 4096))
 
 -- the engine that the program runs: no event tests the form, the listing at the end does once
 -- (`SameOutput` in Claims: it prints the same)
-abbrev pub plain : Engine
+abbrev pub plain : Runner
 plain = record { takes = plainEvent; keys = listed }
 
 -- ---- the run
@@ -64,23 +64,23 @@ lastOf takes order m [] = m
 lastOf takes order m (line ∷ rest) = lastOf takes order (lineOf takes order m line .memory) rest
 
 -- one line for each key, then moves, won, lost and taken
-unfoldable pub closing : Engine → Machine → List ℕ
+unfoldable pub closing : Runner → Machine → List ℕ
 closing e m = keyLines (e .keys m) ++ tallyLines (m .state .tallies) (m .state .taken)
 
 -- answers and refusals, then the closing lines
-abbrev pub played : Engine → (order : ℕ) → Machine → (seen : ℕ) → List Line → List ℕ
+abbrev pub played : Runner → (order : ℕ) → Machine → (seen : ℕ) → List Line → List ℕ
 played e order m seen lines =
     saysFrom (e .takes) order m seen lines ++ closing e (lastOf (e .takes) order m lines)
 
 -- ---- the output
 
 -- 0 means a good text, which is run on a fresh list; of any other only its first bad line is printed
-abbrev pub judged : Engine → List ℕ → Head → (bad : ℕ) → List ℕ
+abbrev pub judged : Runner → List ℕ → Head → (bad : ℕ) → List ℕ
 judged e text head zero = played e (head .order) (fresh (head .nodes) (head .parties)) 0 (bodyOf text head)
 judged e text head (suc line) = badLine (suc line)
 
 -- a text of over 65,536 bytes gives bad=0, whatever it holds
-unfoldable pub outputBy : Engine → List ℕ → List ℕ
+unfoldable pub outputBy : Runner → List ℕ → List ℕ
 outputBy e text =
     cond (ltb 65536 (length text))
     (badLine 0)

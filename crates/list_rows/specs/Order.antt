@@ -36,6 +36,6 @@ below t row other = ltb (rankAt t row) (rankAt t other)
 abbrev pub belowKey : Table → (row key : ℕ) → Bool
 belowKey t row key = ltb (rankAt t row) (keyRank key)
 
--- no end row and no splice has the rank of a key
+-- no end row and no splice has the rank of a legal key (`OnlyItemsEqual` in Claims)
 abbrev pub equalsKey : Table → (row key : ℕ) → Bool
 equalsKey t row key = eqb (rankAt t row) (keyRank key)

@@ -3,7 +3,7 @@ use Rattle.list_rows.specs.declared.Write.{Write}
 use Rattle.list_rows.specs.declared.Write.the-variants.{Untouched, Link, Splice, Item}
 use Rattle.list_rows.specs.Table.{Table, link, withRow}
 
--- a splice has no key; an item is made before anything is linked to it or from it
+-- as a splice: kind 3, key 0, its next, its back; as an item: kind 2, its key, next 0, back 0
 abbrev pub written : Write → Table → Table
 written Untouched t = t
 written (Link row to) t = link t row to

@@ -9,7 +9,7 @@ use Rattle.list_party.specs.State.{partyAt, withParty, withTaken}
 use Rattle.list_rows.specs.Table.{Table}
 use Rattle.list_rows.specs.Writes.{written}
 use Rattle.list_moves.specs.declared.Moved.{Moved}
-use Rattle.list_moves.specs.Moves.{placeOf}
+use Rattle.list_moves.specs.Moves.{moveAt}
 use Rattle.list_unchecked.specs.declared.Begun.{Begun}
 use Rattle.list_unchecked.specs.Unchecked.{machine, begunOf, started, uncheckedCall, made, settled, carried, uncheckedMove}
 
@@ -23,8 +23,8 @@ module _ (t : Table) (st : State) (i : ℕ) where
       rw (takes, places, writes) (ap (started (machine t st) i) (begins ∙ ap (λ (q : Party). begunOf st q call key) is))
 
   pub a-move : {t′ : Table} {st′ : State} {q : Party} {moved : Moved} →
-      q ≡ partyAt st i → moved ≡ placeOf (q .place) t q → t′ ≡ written (moved .write) t → st′ ≡ settled st i moved →
+      q ≡ partyAt st i → moved ≡ moveAt (q .place) t q → t′ ≡ written (moved .write) t → st′ ≡ settled st i moved →
       made (machine t′ st′) (moved .said) ≡ uncheckedMove (machine t st) i
   unfolding uncheckedMove
   a-move is moves writes settles =
-      rw (writes, settles) (ap (carried (machine t st) i) (moves ∙ ap (λ (q : Party). placeOf (q .place) t q) is))
+      rw (writes, settles) (ap (carried (machine t st) i) (moves ∙ ap (λ (q : Party). moveAt (q .place) t q) is))

@@ -8,13 +8,13 @@ use Rattle.calls.specs.Tallies.{oneMore}
 use Rattle.list_party.specs.declared.Place.the-variants.{Walk, Look}
 use Rattle.list_party.specs.declared.Party.{Party}
 use Rattle.list_party.specs.declared.State.{State}
-use Rattle.list_party.specs.Party.{party, goesTo}
+use Rattle.list_party.specs.Party.{partyRecord, goesTo}
 use Rattle.list_party.specs.State.{partyAt, withParty, withTaken, tallied}
 use Rattle.list_rows.specs.declared.Write.the-variants.{Untouched, Item}
 use Rattle.list_rows.specs.Table.{Table, head, headNxt}
 use Rattle.list_rows.specs.Writes.{written}
 use Rattle.list_moves.specs.declared.Moved.{Moved}
-use Rattle.list_moves.specs.Moves.{placeOf}
+use Rattle.list_moves.specs.Moves.{moveAt}
 use Rattle.list_unchecked.specs.declared.Begun.{Begun}
 
 -- all that the engine works on: the table and the state
@@ -35,12 +35,14 @@ partyOf m i = partyAt (m .state) i
 abbrev pub ownRow : State → Party → ℕ
 ownRow st q = cond (q .unpublished) (q .own) (st .taken)
 
+-- T is one more if row T is taken
 abbrev pub takenThen : State → Party → ℕ
 takenThen st q = cond (q .unpublished) (st .taken) (oneMore 65535 (st .taken))
 
--- the start: p = 0, n = 1, c = 1, place WALK; nobody else knows of the own row
+-- the start: p = 0, n = 1, c = 1, place WALK; own is unpublished
 abbrev pub starting : Call → (key own : ℕ) → Party
-starting call key own = party (Walk call key) (record { p = head; n = headNxt; c = headNxt; s = 0; r = 0 }) own true
+starting call key own =
+    partyRecord (Walk call key) (record { p = head; n = headNxt; c = headNxt; s = 0; r = 0 }) own true
 
 -- the own row becomes an item with the call's key, next 0 and back 0
 abbrev pub startOf : State → Party → Call → ℕ → Begun
@@ -66,7 +68,7 @@ uncheckedCall m i call key = started m i (begunOf (m .state) (partyOf m i) call 
 
 -- ---- a move
 
--- what a move leaves, and what it says
+-- what a move leaves, and what it says (`wordOf` of `calls` reads it in the document's words)
 pub record Made : Type 0 where
   pub after : Machine
   pub said : Said
@@ -82,4 +84,4 @@ abbrev pub carried : Machine → ℕ → Moved → Made
 carried m i moved = made (machine (written (moved .write) (m .table)) (settled (m .state) i moved)) (moved .said)
 
 unfoldable pub uncheckedMove : Machine → ℕ → Made
-uncheckedMove m i = carried m i (placeOf (partyOf m i .place) (m .table) (partyOf m i))
+uncheckedMove m i = carried m i (moveAt (partyOf m i .place) (m .table) (partyOf m i))

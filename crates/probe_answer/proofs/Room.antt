@@ -18,7 +18,7 @@ use Rattle.calls.specs.declared.Access.{Access}
 use Rattle.calls.specs.declared.Access.the-variants.{None, Read, Won, Lost}
 use Rattle.list_party.specs.declared.State.{State}
 use Rattle.list_party.specs.State.{tallied, restingState}
-use Rattle.list_moves.specs.Moves.{placeOf}
+use Rattle.list_moves.specs.Moves.{moveAt}
 use Rattle.list_unchecked.specs.Unchecked.{Machine, machine, partyOf, begunOf, uncheckedCall, uncheckedMove}
 use Rattle.list_form.specs.Form.{rowsIn}
 use Rattle.list_fresh.specs.Fresh.{freshTable}
@@ -94,7 +94,7 @@ call-alike m party code key =
 move-alike : (m : Machine) (party : ℕ) → Alike m (uncheckedMove m party .after)
 unfolding uncheckedMove
 move-alike m party =
-    let moved = placeOf (partyOf m party .place) (m .table) (partyOf m party) in
+    let moved = moveAt (partyOf m party .place) (m .table) (partyOf m party) in
     written-alike (moved .write) (m .table) (m .state) _ (length-set (m .state .parties) party (moved .party))
 
 -- what tests leave is what was found or what is changed
