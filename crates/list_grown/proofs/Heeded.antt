@@ -12,7 +12,7 @@ use Rattle.list.specs.Engine.{callOf, moveOf}
 use Rattle.list.specs.Run.{Event, calls, moves, quiet, eventOf, run}
 use Rattle.list.proofs.Promises.{refused-call-leaves, refused-move-leaves}
 use Rattle.list_grown.specs.History.{keyIs32, isAccepted, accepts, acceptsAll, heeded, keysAre32}
-use Rattle.list_grown.specs.Demands.{Heeded}
+use Rattle.list_grown.specs.Demands.{AllHeeded}
 use Rattle.logic.proofs.Cases.{by-test}
 
 -- an answer that is not accepted is a refusal
@@ -36,7 +36,7 @@ stays m (calls i code key) fits e =
     (second-fails (keyIs32 (calls i code key)) (isAccepted (quiet (callOf m i code key .answer))) fits e)
 stays m (moves i) fits e = move-stays m (moveOf m i .answer) (moveOf m i .memory) (λ number is. refused-move-leaves m i number is) e
 
-pub all-heeded : Heeded
+pub all-heeded : AllHeeded
 unfolding run acceptsAll heeded keysAre32
 all-heeded m [] fit = (refl, refl)
 all-heeded m (first ∷ rest) fit =

@@ -22,8 +22,8 @@ use Rattle.list_grown.specs.Deeds.{Deed, called, read, addWon, markWon, 
 -- ---- refused events
 
 -- they leave no trace: a history with keys of 32 bits leaves the machine that its accepted events alone leave
-abbrev pub Heeded : Type 0
-Heeded = (m : Machine) (history : History) → keysAre32 history ≡ true →
+abbrev pub AllHeeded : Type 0
+AllHeeded = (m : Machine) (history : History) → keysAre32 history ≡ true →
     (run m history ≡ run m (heeded m history)) × AllAccepted m (heeded m history)
 
 -- ---- good form

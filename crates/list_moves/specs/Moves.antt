@@ -51,40 +51,38 @@ prepareOf q call key =
 
 module _ (t : Table) (q : Party) where
   -- s := next of c
-  abbrev s-of-c : ℕ
-  s-of-c = nextAt t (q .c)
+  abbrev s : ℕ
+  s = nextAt t (q .c)
 
   -- ---- WALK
 
   -- c is below the key. When s is a splice, c := its next; else p := c, n := s, c := s. Stay.
   unfoldable pub onwardOf : Call → ℕ → Moved
-  onwardOf call key = let s = s-of-c in
-      cond (isSplice t s)
+  onwardOf call key = cond (isSplice t s)
       (goesOn (goesTo q (Walk call key) (record { p = q .p; n = q .n; c = nextAt t s; s = 0; r = q .r })))
       (goesOn (goesTo q (Walk call key) (record { p = q .c; n = s; c = s; s = 0; r = q .r })))
 
-  -- An ADD has landed. When s is a splice, c := its next, go to SKIP; else c equals the key, answer no; else prepare.
+  -- An ADD has landed on a row that is not removed. If c equals the key, answer no; else prepare.
+  abbrev pub landedStandingOf : ℕ → Moved
+  landedStandingOf key = cond (equalsKey t (q .c) key) (answers q No) (prepareOf q Add key)
+
+  -- An ADD has landed. When s is a splice, c := its next, go to SKIP; else as above.
   unfoldable pub landedAddOf : ℕ → Moved
-  landedAddOf key = let s = s-of-c in
-      cond (isSplice t s)
+  landedAddOf key = cond (isSplice t s)
       (goesOn (goesTo q (Skip Add key) (record { p = q .p; n = q .n; c = nextAt t s; s = 0; r = 0 })))
-      (cond (equalsKey t (q .c) key)
-      (answers q No)
-      (prepareOf q Add key))
+      (landedStandingOf key)
 
   -- A REMOVE that is not yet marked has landed. If c differs from the key or s is a splice, answer no;
   -- else own becomes a splice with key 0, next s and back p; go to MARK.
   unfoldable pub landedUnmarkedOf : ℕ → Moved
-  landedUnmarkedOf key = let s = s-of-c in
-      cond (not (equalsKey t (q .c) key) || isSplice t s)
+  landedUnmarkedOf key = cond (not (equalsKey t (q .c) key) || isSplice t s)
       (answers q No)
       (readies (goesTo q (Mark Remove key) (record { p = q .p; n = q .n; c = q .c; s = s; r = 0 }))
       (Splice (q .own) s (q .p)))
 
   -- A REMOVE that is already marked has landed. If s is not own, somebody has cleaned up: answer yes; else go to CLEAN.
   unfoldable pub landedMarkedOf : ℕ → Moved
-  landedMarkedOf key =
-      cond (not (eqb s-of-c (q .own)))
+  landedMarkedOf key = cond (not (eqb s (q .own)))
       (answers q Yes)
       (goesOn (goesTo q (Clean Remove key) (record { p = q .p; n = q .n; c = 0; s = 0; r = q .r })))
 
@@ -94,7 +92,7 @@ module _ (t : Table) (q : Party) where
 
   -- A CONTAINS has landed, at LOOK. Answer yes exactly if c equals the key and s is not a splice.
   unfoldable pub landedContainsOf : ℕ → Moved
-  landedContainsOf key = cond (equalsKey t (q .c) key && not (isSplice t s-of-c)) (answers q Yes) (answers q No)
+  landedContainsOf key = cond (equalsKey t (q .c) key && not (isSplice t s)) (answers q Yes) (answers q No)
 
   -- no CONTAINS comes to WALK; if a state outside good form says so, it lands as at LOOK
   abbrev pub landedOf : Call → ℕ → Moved
@@ -110,48 +108,41 @@ module _ (t : Table) (q : Party) where
 
   -- SKIP: when s is a splice, c := its next, stay; else prepare. The key is not looked at again.
   unfoldable pub skipOf : Call → ℕ → Moved
-  skipOf call key = let s = s-of-c in
-      cond (isSplice t s)
+  skipOf call key = cond (isSplice t s)
       (goesOn (goesTo q (Skip call key) (record { p = q .p; n = q .n; c = nextAt t s; s = 0; r = 0 })))
       (prepareOf q call key)
 
   -- ADDSWAP: next of p from n to own. Won: own is published, answer yes. Lost: go to BACK.
   unfoldable pub addSwapOf : Call → ℕ → Moved
-  addSwapOf call key =
-      swapOf t (record { row = q .p; from = q .n; to = q .own })
+  addSwapOf call key = swapOf t (record { row = q .p; from = q .n; to = q .own })
       (idling (published q)) Yes (toBack q call key)
 
   -- MARK: next of c from s to own. Won: own is published, r := s, go to CLEAN. Lost: go to REREAD.
   unfoldable pub markOf : Call → ℕ → Moved
-  markOf call key =
-      swapOf t (record { row = q .c; from = q .s; to = q .own })
+  markOf call key = swapOf t (record { row = q .c; from = q .s; to = q .own })
       (goesTo (published q) (Clean call key) (record { p = q .p; n = q .n; c = 0; s = 0; r = q .s })) Nothing
       (goesTo q (Reread call key) (record { p = q .p; n = q .n; c = q .c; s = 0; r = 0 }))
 
   -- REREAD: when s is a splice, another party has removed the row: answer no; else next of own := s, go to MARK.
   unfoldable pub rereadOf : Call → ℕ → Moved
-  rereadOf call key = let s = s-of-c in
-      cond (isSplice t s)
+  rereadOf call key = cond (isSplice t s)
       (answers q No)
       (readies (goesTo q (Mark call key) (record { p = q .p; n = q .n; c = q .c; s = s; r = 0 })) (Link (q .own) s))
 
   -- CLEAN: next of p from n to r. Won: answer yes. Lost: go to BACK.
   unfoldable pub cleanOf : Call → ℕ → Moved
-  cleanOf call key =
-      swapOf t (record { row = q .p; from = q .n; to = q .r })
+  cleanOf call key = swapOf t (record { row = q .p; from = q .n; to = q .r })
       (idling q) Yes (toBack q call key)
 
   -- BACK: n := next of p. When n is a splice, p := its back, stay; else c := n, go to WALK.
   unfoldable pub backOf : Call → ℕ → Moved
-  backOf call key = let n = nextAt t (q .p) in
-      cond (isSplice t n)
+  backOf call key = let n = nextAt t (q .p) in cond (isSplice t n)
       (goesOn (goesTo q (Back call key) (record { p = backAt t n; n = 0; c = 0; s = 0; r = q .r })))
       (goesOn (goesTo q (Walk call key) (record { p = q .p; n = n; c = n; s = 0; r = q .r })))
 
   -- LOOK below the key: c := next of s if s is a splice, else s. Stay.
   unfoldable pub lookOnOf : Call → ℕ → Moved
-  lookOnOf call key = let s = s-of-c in
-      cond (isSplice t s)
+  lookOnOf call key = cond (isSplice t s)
       (goesOn (goesTo q (Look call key) (record { p = 0; n = 0; c = nextAt t s; s = 0; r = 0 })))
       (goesOn (goesTo q (Look call key) (record { p = 0; n = 0; c = s; s = 0; r = 0 })))
 

@@ -48,33 +48,19 @@ listedIn (refused number) = 0
 
 -- ---- what is seen of each outcome
 
+abbrev pub shown : (number answer listed : ℕ) → (places : List ℕ) → (after : Machine) → Seen
+shown number answer listed places after =
+    record { number = number; answer = answer; listed = listed; places = places; after = after }
+
 -- of a set-up or a call
 unfoldable pub doneShown : (places : List ℕ) → Left Machine (Unit {0}) → Seen
-doneShown places done = record {
-  number = refusalIn (done .answer);
-  answer = 0;
-  listed = 0;
-  places = places;
-  after = done .memory;
-}
+doneShown places done = shown (refusalIn (done .answer)) 0 0 places (done .memory)
 
 unfoldable pub moveShown : (places : List ℕ) → Left Machine Word → Seen
-moveShown places done = record {
-  number = refusalIn (done .answer);
-  answer = saidIn (done .answer);
-  listed = 0;
-  places = places;
-  after = done .memory;
-}
+moveShown places done = shown (refusalIn (done .answer)) (saidIn (done .answer)) 0 places (done .memory)
 
 unfoldable pub listShown : Machine → Left (List ℕ) ℕ → Seen
-listShown m done = record {
-  number = refusalIn (done .answer);
-  answer = 0;
-  listed = listedIn (done .answer);
-  places = done .memory;
-  after = m;
-}
+listShown m done = shown (refusalIn (done .answer)) 0 (listedIn (done .answer)) (done .memory) m
 
 -- ---- the four questions
 
@@ -90,13 +76,7 @@ seenOf bytes =
 
 -- what the code has found, with the table and the places that it leaves
 abbrev pub seenIs : Table → List ℕ → Found → Seen
-seenIs t places found = record {
-  number = found .number;
-  answer = found .answer;
-  listed = found .listed;
-  places = places;
-  after = machine t (found .state);
-}
+seenIs t places found = shown (found .number) (found .answer) (found .listed) places (machine t (found .state))
 
 -- it comes to this, whatever table and places are left
 abbrev pub FoundSo : Found → (Table → List ℕ → Seen) → Type 0
