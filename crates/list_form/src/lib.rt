@@ -47,6 +47,71 @@ struct Kept {
     r: bool,
 }
 
+impl Kept {
+    // idle
+    const NONE: Kept = Kept {
+        p: false,
+        n: false,
+        c: false,
+        s: false,
+        r: false,
+    };
+
+    // WALK, SKIP and REREAD
+    const P_N_C: Kept = Kept {
+        p: true,
+        n: true,
+        c: true,
+        s: false,
+        r: false,
+    };
+
+    // ADDSWAP
+    const P_N: Kept = Kept {
+        p: true,
+        n: true,
+        c: false,
+        s: false,
+        r: false,
+    };
+
+    // MARK
+    const P_N_C_S: Kept = Kept {
+        p: true,
+        n: true,
+        c: true,
+        s: true,
+        r: false,
+    };
+
+    // CLEAN
+    const P_N_R: Kept = Kept {
+        p: true,
+        n: true,
+        c: false,
+        s: false,
+        r: true,
+    };
+
+    // BACK
+    const P: Kept = Kept {
+        p: true,
+        n: false,
+        c: false,
+        s: false,
+        r: false,
+    };
+
+    // LOOK
+    const C: Kept = Kept {
+        p: false,
+        n: false,
+        c: true,
+        s: false,
+        r: false,
+    };
+}
+
 // Whether the columns, given by their lengths, agree. Not that they have 4 to 4,096 rows (1).
 pub fn columns_agree(kind: usize, key: usize, next: usize, back: usize) -> bool
     ensures { λ r. ⌜ r ≡ columnsAgree kind key next back ⌝ }
@@ -150,69 +215,15 @@ fn kept_at(place: Place) -> Kept
     ensures { λ r. ⌜ r ≡ keptAt place ⌝ }
 {
     match place {
-        Place::Idle => Kept {
-            p: false,
-            n: false,
-            c: false,
-            s: false,
-            r: false,
-        },
-        Place::Walk(_, _) => Kept {
-            p: true,
-            n: true,
-            c: true,
-            s: false,
-            r: false,
-        },
-        Place::Skip(_, _) => Kept {
-            p: true,
-            n: true,
-            c: true,
-            s: false,
-            r: false,
-        },
-        Place::AddSwap(_, _) => Kept {
-            p: true,
-            n: true,
-            c: false,
-            s: false,
-            r: false,
-        },
-        Place::Mark(_, _) => Kept {
-            p: true,
-            n: true,
-            c: true,
-            s: true,
-            r: false,
-        },
-        Place::Reread(_, _) => Kept {
-            p: true,
-            n: true,
-            c: true,
-            s: false,
-            r: false,
-        },
-        Place::Clean(_, _) => Kept {
-            p: true,
-            n: true,
-            c: false,
-            s: false,
-            r: true,
-        },
-        Place::Back(_, _) => Kept {
-            p: true,
-            n: false,
-            c: false,
-            s: false,
-            r: false,
-        },
-        Place::Look(_, _) => Kept {
-            p: false,
-            n: false,
-            c: true,
-            s: false,
-            r: false,
-        },
+        Place::Idle => Kept::NONE,
+        Place::Walk(_, _) => Kept::P_N_C,
+        Place::Skip(_, _) => Kept::P_N_C,
+        Place::AddSwap(_, _) => Kept::P_N,
+        Place::Mark(_, _) => Kept::P_N_C_S,
+        Place::Reread(_, _) => Kept::P_N_C,
+        Place::Clean(_, _) => Kept::P_N_R,
+        Place::Back(_, _) => Kept::P,
+        Place::Look(_, _) => Kept::C,
     }
 }
 
