@@ -1,4 +1,5 @@
 // Key fields: four bytes at a place of a lent record, loaded and stored in either byte order.
+#![tactic(auto)]
 ghost use Rattle.std.specs.Prelude.{◌≡◌, ◌+◌, ◌*◌, ◌/◌, ◌%◌, ◌<◌, ◌≤◌, length, set};
 ghost use Rattle.refusal.specs.Answer.{verdict_is};
 ghost use Rattle.field.specs.Layout.{arranged};

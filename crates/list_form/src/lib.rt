@@ -1,4 +1,5 @@
 // Good form: whether the four columns and the state are such as the entry points work on.
+#![tactic(auto)]
 ghost use Rattle.std.specs.Prelude.{◌≡◌, ◌+◌, length};
 ghost use Rattle.list_rows.specs.Table.{before};
 ghost use Rattle.list_unchecked.specs.Unchecked.{machine};

@@ -1,4 +1,5 @@
 // A whole schedule: its text goes in, and its whole output is left in a lent buffer.
+#![tactic(auto)]
 ghost use Rattle.std.specs.Prelude.{◌≡◌, ◌≤◌};
 ghost use Rattle.page.specs.Page.{Puts};
 ghost use Rattle.list_rows.specs.Table.{before, after};

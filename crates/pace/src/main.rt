@@ -1,4 +1,5 @@
 // The pace program: replays one schedule many times, so that a replay can be timed, and writes the output of the last.
+#![tactic(auto)]
 ghost use Rattle.std.specs.Prelude.{◌≡◌, length};
 
 use libc::{STDIN_FILENO, STDOUT_FILENO};

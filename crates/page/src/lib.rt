@@ -1,5 +1,6 @@
 // Writing bytes and decimal numbers one after another into a lent buffer.
 // A full buffer takes no more, and nothing past it is touched.
+#![tactic(auto)]
 ghost use Rattle.std.specs.Prelude.{[], ◌∷◌};
 ghost use Rattle.page.specs.Page.{Puts, digits, decimal};
 

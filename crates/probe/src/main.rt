@@ -1,4 +1,5 @@
 // The probe program: reads a question on standard input and writes all that came of it to standard output.
+#![tactic(auto)]
 ghost use Rattle.std.specs.Prelude.{◌≡◌, length};
 
 use libc::{STDIN_FILENO, STDOUT_FILENO};

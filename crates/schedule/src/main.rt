@@ -1,4 +1,5 @@
 // The schedule program: reads a schedule on standard input and writes what came of it to standard output.
+#![tactic(auto)]
 ghost use Rattle.std.specs.Prelude.{◌≡◌, length};
 
 use libc::{STDIN_FILENO, STDOUT_FILENO};

@@ -1,5 +1,6 @@
 // The lines of a schedule: one line at a place, the head, and the first line that breaks the rules.
 // Nothing here knows what a list is.
+#![tactic(auto)]
 ghost use Rattle.std.specs.Prelude.{◌≡◌, ◌<◌};
 ghost use Rattle.script.specs.Lines.{verb_at, call_line, step_line, end_line, line_at, ends_body, next_of};
 ghost use Rattle.script.specs.Head.{parties_line, rows_of, nodes_line, order_line, first_lost, head_of};

@@ -1,5 +1,6 @@
 // Reading at a place of a text: words, decimal numbers, fields of eight hex digits.
 // A reading that fails goes to LOST, where every later one fails too.
+#![tactic(auto)]
 ghost use Rattle.std.specs.Prelude.{◌≡◌};
 ghost use Rattle.text.specs.Reading.{
   byte_at,

@@ -1,5 +1,6 @@
 // The stored schedules: runs each through `replay`, holds its whole output to the stored one byte for byte,
 // and prints a line a group and a total.
+#![tactic(auto)]
 ghost use Rattle.std.specs.Prelude.{◌≡◌, length, ◌≤◌};
 ghost use Rattle.io.specs.Counts.{IsPrefixLen};
 
