@@ -7,7 +7,7 @@ ghost use Rattle.calls.specs.Tallies.{one_more, no_tallies, counted};
 use refusal::Refusal;
 
 // What a party is asked to do.
-#[derive(Drop)]
+#[derive(Clone, Copy)]
 pub enum Call {
     Add,
     Remove,
@@ -15,14 +15,14 @@ pub enum Call {
 }
 
 // A call with its key.
-#[derive(Drop)]
+#[derive(Clone, Copy)]
 pub struct Asked {
     pub call: Call,
     pub key: u32,
 }
 
 // What is said with a move: nothing yet, or the answer of the call.
-#[derive(Drop)]
+#[derive(Clone, Copy)]
 pub enum Said {
     Nothing,
     Yes,
@@ -30,14 +30,14 @@ pub enum Said {
 }
 
 // What an engine answers to a call or a move: something said, or a refusal.
-#[derive(Drop)]
+#[derive(Clone, Copy)]
 pub enum Reply {
     Heard(Said),
     Refused(Refusal),
 }
 
 // What came of the access of a move.
-#[derive(Drop)]
+#[derive(Clone, Copy)]
 pub enum Access {
     None,
     Read,
@@ -46,7 +46,7 @@ pub enum Access {
 }
 
 // The tallies: moves made, swaps won, swaps lost.
-#[derive(Drop)]
+#[derive(Clone, Copy)]
 pub struct Tallies {
     pub moves: u32,
     pub won: u32,

@@ -2,7 +2,7 @@
 #![tactic(auto)]
 ghost use Rattle.std.specs.Prelude.{◌≡◌, not, ltb};
 ghost use Rattle.refusal.specs.Answer.{left, verdict_is, refusing, passed};
-ghost use Rattle.list_rows.specs.Table.{before, after};
+ghost use Rattle.list_rows.specs.Table.{before, before_mut, after};
 ghost use Rattle.list_unchecked.specs.Unchecked.{machine};
 ghost use Rattle.list.specs.Engine.{
   bad_columns,
@@ -26,21 +26,21 @@ use list_party::State;
 use refusal::{Refusal, Verdict};
 
 // What a set-up or a call hands back: the state, and whether it was accepted.
-#[derive(Drop)]
+#[derive(Clone, Copy)]
 pub struct After {
     pub state: State,
     pub verdict: Verdict,
 }
 
 // What a move hands back: the state and the answer.
-#[derive(Drop)]
+#[derive(Clone, Copy)]
 pub struct Stepped {
     pub state: State,
     pub reply: Reply,
 }
 
 // What a listing is answered: how many keys it has listed, or a refusal.
-#[derive(Drop)]
+#[derive(Clone, Copy)]
 pub enum Listed {
     Keys(usize),
     Refused(Refusal),
@@ -78,7 +78,7 @@ pub fn set_up(
     parties: u32,
 ) -> After
     ensures { after_is (after kind key next back) result
-        ≡ set_up_of (machine (before kind key next back) came) parties }
+        ≡ set_up_of (machine (before_mut kind key next back) came) parties }
 {
     let verdict = set_up_verdict(kind.len(), key.len(), next.len(), back.len(), parties);
     match verdict {
@@ -174,7 +174,7 @@ pub fn call(
     wanted: u32,
 ) -> After
     ensures { after_is (after kind key next back) result
-        ≡ call_of (machine (before kind key next back) state) number code wanted }
+        ≡ call_of (machine (before_mut kind key next back) state) number code wanted }
 {
     let later = call_asks(state, kind.len(), number, code);
     let verdict = form_verdict(kind, key, next, back, state, later);
@@ -205,7 +205,7 @@ pub fn step(
     state: State,
     number: u32,
 ) -> Stepped
-    ensures { step_is (after kind key next back) result ≡ move_of (machine (before kind key next back) state) number }
+    ensures { step_is (after kind key next back) result ≡ move_of (machine (before_mut kind key next back) state) number }
 {
     let verdict = form_verdict(kind, key, next, back, state, move_asks(state, number));
     match verdict {

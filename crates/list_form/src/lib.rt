@@ -34,7 +34,7 @@ use list_party::{Party, Place, State};
 use list_rows::{END, ITEM, SPLICE, UNUSED};
 
 // Which of its values a party keeps.
-#[derive(Drop)]
+#[derive(Clone, Copy)]
 struct Kept {
     p: bool,
     n: bool,

@@ -2,7 +2,7 @@
 #![tactic(auto)]
 ghost use Rattle.std.specs.Prelude.{◌≡◌, length};
 ghost use Rattle.columns.specs.Column.{zeros};
-ghost use Rattle.list_rows.specs.Table.{before, after, head_nxt, tail, tail_nxt};
+ghost use Rattle.list_rows.specs.Table.{before_mut, after, head_nxt, tail, tail_nxt};
 ghost use Rattle.list_fresh.specs.Fresh.{ends, emptied};
 
 use columns::{clear_u8, clear_u16, clear_u32, write_u8, write_u16};
@@ -32,7 +32,7 @@ fn fresh_nexts(next: &mut [u16])
 
 // Makes the columns those of an empty list, whatever their lengths. Refuses nothing.
 pub fn fresh_table(kind: &mut [u8], key: &mut [u32], next: &mut [u16], back: &mut [u16])
-    ensures { after kind key next back ≡ emptied (before kind key next back) }
+    ensures { after kind key next back ≡ emptied (before_mut kind key next back) }
 {
     fresh_kinds(kind);
     clear_u32(key);

@@ -32,7 +32,7 @@ use list_party::{Party, Place, Values};
 use list_rows::{Row, Write};
 
 // What a move comes to: the party after it, what is said, what came of the access, what is written.
-#[derive(Drop)]
+#[derive(Clone, Copy)]
 pub struct Moved {
     pub party: Party,
     pub said: Said,
@@ -41,7 +41,7 @@ pub struct Moved {
 }
 
 // A swap of the next of a row, from the row that is expected there to another.
-#[derive(Drop)]
+#[derive(Clone, Copy)]
 struct Swap {
     row: u16,
     from: u16,

@@ -8,7 +8,7 @@ ghost use Rattle.list_party.specs.State.{party_at, with_party, with_taken, talli
 use calls::{Access, Asked, Call, Tallies};
 
 // A party's place in the work: idle, or a place with the call and the key.
-#[derive(Drop)]
+#[derive(Clone, Copy)]
 pub enum Place {
     Idle,
     Walk(Call, u32),
@@ -22,7 +22,7 @@ pub enum Place {
 }
 
 // The rows that a party keeps at its place; one that the place does not keep is 0.
-#[derive(Drop)]
+#[derive(Clone, Copy)]
 pub struct Values {
     // the row below the key whose next ADDSWAP and CLEAN swap
     pub p: u16,
@@ -37,7 +37,7 @@ pub struct Values {
 }
 
 // A party record: its place, the values of the place, and its own row.
-#[derive(Drop)]
+#[derive(Clone, Copy)]
 pub struct Party {
     pub place: Place,
     pub p: u16,
@@ -52,7 +52,7 @@ pub struct Party {
 }
 
 // The parties, how many there are, how many rows are taken, and the tallies.
-#[derive(Drop)]
+#[derive(Clone, Copy)]
 pub struct State {
     pub parties: [Party; 16],
     pub count: u8,

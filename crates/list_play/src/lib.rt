@@ -1,7 +1,7 @@
 // A line on a list that a program has set up itself: the refusals but 1 and 3, then the unchecked call or move.
 #![tactic(auto)]
 ghost use Rattle.std.specs.Prelude.{◌≡◌};
-ghost use Rattle.list_rows.specs.Table.{before, after};
+ghost use Rattle.list_rows.specs.Table.{before_mut, after};
 ghost use Rattle.list_unchecked.specs.Unchecked.{machine};
 ghost use Rattle.list.specs.Run.{calls, moves};
 ghost use Rattle.list.specs.Answers.{step_is};
@@ -28,7 +28,7 @@ fn plain_call(
     wanted: u32,
 ) -> Stepped
     ensures { step_is (after kind key next back) result
-        ≡ plain_event (machine (before kind key next back) state) (calls party code wanted) }
+        ≡ plain_event (machine (before_mut kind key next back) state) (calls party code wanted) }
 {
     let verdict = call_asks(state, kind.len(), party, code);
     match verdict {
@@ -65,7 +65,7 @@ fn plain_move(
     party: u32,
 ) -> Stepped
     ensures { step_is (after kind key next back) result
-        ≡ plain_event (machine (before kind key next back) state) (moves party) }
+        ≡ plain_event (machine (before_mut kind key next back) state) (moves party) }
 {
     let verdict = move_asks(state, party);
     match verdict {
@@ -104,7 +104,7 @@ fn play_call(
     line: CallLine,
 ) -> Stepped
     ensures { step_is (after kind key next back) result
-        ≡ loaded plain_event (machine (before kind key next back) state) line (load_of (field_in line) 0 order) }
+        ≡ loaded plain_event (machine (before_mut kind key next back) state) line (load_of (field_in line) 0 order) }
 {
     let field = load_field(line, order);
     match field {
@@ -142,7 +142,7 @@ pub fn play_line(
     line: Line,
 ) -> Stepped
     ensures { step_is (after kind key next back) result
-        ≡ line_of plain_event order (machine (before kind key next back) state) line }
+        ≡ line_of plain_event order (machine (before_mut kind key next back) state) line }
 {
     match line {
         Line::Call(c) => play_call(kind, key, next, back, state, order, c),

@@ -2,7 +2,7 @@
 #![tactic(auto)]
 ghost use Rattle.std.specs.Prelude.{◌≡◌, ◌≤◌};
 ghost use Rattle.page.specs.Page.{Puts};
-ghost use Rattle.list_rows.specs.Table.{before, after};
+ghost use Rattle.list_rows.specs.Table.{before, before_mut, after};
 ghost use Rattle.list_party.specs.State.{resting_state};
 ghost use Rattle.list_unchecked.specs.Unchecked.{machine};
 ghost use Rattle.list.specs.Engine.{set_up_of};
@@ -19,7 +19,7 @@ use report::{put_bad, put_keys, put_reply, put_tallies};
 use script::{Head, Line, ends_body, first_bad, line_at, most_lines, next_of, read_head};
 
 // The state after a line, and the place behind what was printed for it.
-#[derive(Drop)]
+#[derive(Clone, Copy)]
 struct Ran {
     state: State,
     to: usize,
@@ -39,8 +39,8 @@ fn run_line(
     to: usize,
 ) -> Ran
     ensures { (machine (after kind key next back) result.state
-        ≡ (line_of plain_event order (machine (before kind key next back) state) line).memory)
-        × (Puts out to (line_says plain_event order (machine (before kind key next back) state) number line) result.to) }
+        ≡ (line_of plain_event order (machine (before_mut kind key next back) state) line).memory)
+        × (Puts out to (line_says plain_event order (machine (before_mut kind key next back) state) number line) result.to) }
 {
     let party = party_in(line);
     let before = state.party_at(party);
@@ -105,7 +105,7 @@ fn run_body(
     out: &mut [u8],
 ) -> usize
     ensures { Puts out 0
-        (played plain head.order (machine (before kind key next back) start) 0
+        (played plain head.order (machine (before_mut kind key next back) start) 0
         (body_of text.now head)) result }
 {
     let order = head.order;
@@ -142,7 +142,7 @@ fn run_in(
 ) -> usize
     ensures { Puts out 0
         (played plain head.order
-        (set_up_of (machine (before kind key next back) (resting_state 0 0)) head.parties).memory 0
+        (set_up_of (machine (before_mut kind key next back) (resting_state 0 0)) head.parties).memory 0
         (body_of text.now head)) result }
 {
     let ready = set_up(kind, key, next, back, State::resting(0, 0), head.parties);

@@ -1,6 +1,6 @@
 -- The table: the four columns as lists, its reads and its writes (document 01, "Rows and parties").
 use Rattle.std.specs.Prelude.{List, Bool, ℕ, eqb}
-use Rattle.std.specs.Borrow.{Bor}
+use Rattle.std.specs.Borrow.{Bor, MutBor}
 use denote.Triple.Both.{Both}
 use Rattle.columns.specs.Column.{at, put}
 
@@ -15,14 +15,21 @@ tab kind key next back = record { kind = kind; key = key; next = next; back = ba
 
 -- ---- four lent columns as a table
 
--- a lent column in a contract: as it came, and as it is left
+-- a column in a contract that is lent to be read, by &
 abbrev pub Column : Type 0
 Column = Both (Bor (List ℕ)) (Bor (List ℕ))
 
 abbrev pub before : (kind key next back : Column) → Table
 before kind key next back = tab kind.entry.now key.entry.now next.entry.now back.entry.now
 
-abbrev pub after : (kind key next back : Column) → Table
+-- a column that is lent to be changed, by &mut: as it came, and as it is left
+abbrev pub ColumnMut : Type 0
+ColumnMut = Both (MutBor (List ℕ)) (MutBor (List ℕ))
+
+abbrev pub before_mut : (kind key next back : ColumnMut) → Table
+before_mut kind key next back = tab kind.entry.now key.entry.now next.entry.now back.entry.now
+
+abbrev pub after : (kind key next back : ColumnMut) → Table
 after kind key next back = tab kind.exit.now key.exit.now next.exit.now back.exit.now
 
 -- ---- the end rows by their fixed numbers

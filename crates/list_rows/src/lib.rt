@@ -2,7 +2,7 @@
 #![tactic(auto)]
 ghost use Rattle.std.specs.Prelude.{◌≡◌, eqb, ltb};
 ghost use Rattle.columns.specs.Column.{at};
-ghost use Rattle.list_rows.specs.Table.{before, after, with_row};
+ghost use Rattle.list_rows.specs.Table.{before_mut, after, with_row};
 ghost use Rattle.list_rows.specs.Order.{end_rank, rank_in, key_rank};
 ghost use Rattle.list_rows.specs.Writes.{written};
 
@@ -18,7 +18,7 @@ pub const ITEM: u8 = 2;
 pub const SPLICE: u8 = 3;
 
 // A row by its number.
-#[derive(Drop)]
+#[derive(Clone, Copy)]
 pub struct Row(pub u16);
 
 impl Row {
@@ -56,6 +56,7 @@ impl Row {
     }
 
     // Where the row stands in the order, as one number.
+    #[tactic(auto, unfolding(crate::specs::Order::rank))]
     fn rank(self, kind: &[u8], key: &[u32]) -> u64
         ensures { result ≡ rank_in kind.now key.now self.0 }
     {
@@ -93,7 +94,7 @@ impl Row {
 }
 
 // What is written in the table.
-#[derive(Drop)]
+#[derive(Clone, Copy)]
 pub enum Write {
     // no row
     Untouched,
@@ -118,7 +119,7 @@ fn write_row(
     new_back: u16,
 )
     ensures { after kind key next back
-        ≡ with_row (before kind key next back) row new_kind new_key new_next new_back }
+        ≡ with_row (before_mut kind key next back) row new_kind new_key new_next new_back }
 {
     write_u8(kind, row, new_kind);
     write_u32(key, row, new_key);
@@ -128,7 +129,7 @@ fn write_row(
 
 // Makes a write. Nothing is tested or refused: past the end of a column nothing is written.
 pub fn apply(kind: &mut [u8], key: &mut [u32], next: &mut [u16], back: &mut [u16], what: Write)
-    ensures { after kind key next back ≡ written what (before kind key next back) }
+    ensures { after kind key next back ≡ written what (before_mut kind key next back) }
 {
     match what {
         Write::Untouched => {}

@@ -3,7 +3,7 @@
 #![tactic(auto)]
 ghost use Rattle.std.specs.Prelude.{◌≡◌};
 ghost use Rattle.calls.specs.declared.Call.TheVariants.{Contains};
-ghost use Rattle.list_rows.specs.Table.{before, after};
+ghost use Rattle.list_rows.specs.Table.{before_mut, after};
 ghost use Rattle.list_unchecked.specs.Unchecked.{
   machine,
   own_row,
@@ -23,7 +23,7 @@ use list_party::{Party, Place, State, Values, one_taken};
 use list_rows::{Row, Write, apply};
 
 // What a call comes to: the party after it, what is written, how many rows are then taken.
-#[derive(Drop)]
+#[derive(Clone, Copy)]
 struct Begun {
     party: Party,
     write: Write,
@@ -31,7 +31,7 @@ struct Begun {
 }
 
 // The state after a move, and what is said with it.
-#[derive(Drop)]
+#[derive(Clone, Copy)]
 pub struct Done {
     pub state: State,
     pub said: Said,
@@ -129,7 +129,7 @@ pub fn call(
     wanted: u32,
 ) -> State
     ensures { machine (after kind key next back) result
-        ≡ unchecked_call (machine (before kind key next back) state) number call wanted }
+        ≡ unchecked_call (machine (before_mut kind key next back) state) number call wanted }
 {
     let begun = begin(state, state.party_at(number), call, wanted);
     let write = begun.write;
@@ -157,7 +157,7 @@ pub fn step(
     number: u32,
 ) -> Done
     ensures { made (machine (after kind key next back) result.state) result.said
-        ≡ unchecked_move (machine (before kind key next back) state) number }
+        ≡ unchecked_move (machine (before_mut kind key next back) state) number }
 {
     let moved = place_move(kind, key, next, back, state.party_at(number));
     let write = moved.write;

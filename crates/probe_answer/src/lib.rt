@@ -2,7 +2,7 @@
 #![tactic(auto)]
 ghost use Rattle.std.specs.Prelude.{◌≡◌, true};
 ghost use Rattle.refusal.specs.Answer.{left, verdict_is};
-ghost use Rattle.list_rows.specs.Table.{tab, before, after};
+ghost use Rattle.list_rows.specs.Table.{tab, before, before_mut, after};
 ghost use Rattle.page.specs.Page.{Puts};
 ghost use Rattle.list_unchecked.specs.Unchecked.{machine};
 ghost use Rattle.list.specs.Answers.{after_is, step_is, listed_is};
@@ -34,7 +34,7 @@ use probe_layout::{
 use refusal::Verdict;
 
 // What a question has found: a refusal's number or 0, the answer, how many keys were listed, and the state.
-#[derive(Drop)]
+#[derive(Clone, Copy)]
 struct Found {
     state: State,
     number: u8,
@@ -147,7 +147,7 @@ fn ask(
     state: State,
 ) -> Found
     ensures { seen_is (after kind key next back) places.new result
-        ≡ seen_by asked.what (machine (before kind key next back) state)
+        ≡ seen_by asked.what (machine (before_mut kind key next back) state)
         asked.party asked.code asked.key places.old }
 {
     let what = asked.what;

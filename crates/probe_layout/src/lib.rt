@@ -12,7 +12,7 @@ pub use write::{put_machine, put_two, put_u32s};
 
 // The numbers before the state: which question, of which party, with which code and key, how many places, and the
 // lengths of the columns.
-#[derive(Drop)]
+#[derive(Clone, Copy)]
 pub struct Question {
     pub what: u8,
     pub party: u32,

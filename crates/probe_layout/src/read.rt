@@ -1,7 +1,7 @@
 // What is read from a question: numbers, party records, columns, and whether all of it fits the layout.
 ghost use Rattle.std.specs.Prelude.{◌≡◌, true, ◌+◌, ◌*◌, ◌<◌, length};
 ghost use Rattle.logic.specs.Every.{every};
-ghost use Rattle.list_rows.specs.Table.{tab, before, after};
+ghost use Rattle.list_rows.specs.Table.{tab, before_mut, after};
 ghost use Rattle.probe_layout.specs.Bytes.{byte_at, two_at, four_at, each};
 ghost use Rattle.probe_layout.specs.Records.{place_numbered, record_at, record_fits};
 ghost use Rattle.probe_layout.specs.Layout.{table_in, rooms_fit, table_into, tallies_in, state_in, fits, end_of};
@@ -190,7 +190,7 @@ pub fn read_table(
     next: &mut [u16],
     back: &mut [u16],
 )
-    ensures { after kind key next back ≡ table_into bytes.now (before kind key next back) }
+    ensures { after kind key next back ≡ table_into bytes.now (before_mut kind key next back) }
 {
     let kinds = kind.len() == two_at(bytes, 15) as usize;
     let keys = key.len() == two_at(bytes, 17) as usize;

@@ -62,7 +62,7 @@ pub fn put_u32s(out: &mut [u8], to: usize, column: &[u32]) -> usize
 }
 
 // A place in numbers: its own, its call's, its key.
-#[derive(Drop)]
+#[derive(Clone, Copy)]
 struct Spelled {
     number: u8,
     call: u8,

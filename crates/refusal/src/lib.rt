@@ -4,7 +4,7 @@ ghost use Rattle.std.specs.Prelude.{◌≡◌};
 ghost use Rattle.refusal.specs.Number.{number_of};
 
 // One case for each row of the table of refusal numbers, in that order.
-#[derive(Drop)]
+#[derive(Clone, Copy)]
 pub enum Refusal {
     // 1: the columns differ in length, or are shorter than 4 rows or longer than 4,096.
     BadColumns,
@@ -52,7 +52,7 @@ impl Refusal {
 }
 
 // What the tests of an entry point find: nothing, or the first refusal that applies.
-#[derive(Drop)]
+#[derive(Clone, Copy)]
 pub enum Verdict {
     Accepted,
     Refused(Refusal),
