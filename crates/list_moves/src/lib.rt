@@ -114,6 +114,7 @@ fn try_swap(
 }
 
 // The own row is linked to where the walk has ended, and the swap comes next.
+#[tactic(auto, unfolding(crate::specs::Moves::prepare_of))]
 fn prepare(party: Party, call: Call, wanted: u32) -> Moved
     ensures { result ≡ prepare_of party call wanted }
 {
@@ -129,6 +130,7 @@ fn prepare(party: Party, call: Call, wanted: u32) -> Moved
 }
 
 // WALK below the key: past a removed row c moves alone, else p and n come along.
+#[tactic(auto, unfolding(crate::specs::Moves::onward_of))]
 fn onward(
     kind: &[u8],
     key: &[u32],
@@ -163,6 +165,7 @@ fn onward(
 }
 
 // An ADD that has landed.
+#[tactic(auto, unfolding(crate::specs::Moves::landed_add_of))]
 fn landed_add(
     kind: &[u8],
     key: &[u32],
@@ -192,6 +195,7 @@ fn landed_add(
 }
 
 // A REMOVE that is not yet marked has landed.
+#[tactic(auto, unfolding(crate::specs::Moves::landed_unmarked_of))]
 fn landed_unmarked(
     kind: &[u8],
     key: &[u32],
@@ -222,6 +226,7 @@ fn landed_unmarked(
 }
 
 // A REMOVE that is already marked has landed: where its splice is gone somebody has cleaned up.
+#[tactic(auto, unfolding(crate::specs::Moves::landed_marked_of))]
 fn landed_marked(
     kind: &[u8],
     key: &[u32],
@@ -247,6 +252,7 @@ fn landed_marked(
 }
 
 // A REMOVE that has landed; it is marked if its own row is published.
+#[tactic(auto, unfolding(crate::specs::Moves::landed_remove_of))]
 fn landed_remove(
     kind: &[u8],
     key: &[u32],
@@ -264,6 +270,7 @@ fn landed_remove(
 }
 
 // A CONTAINS that has landed.
+#[tactic(auto, unfolding(crate::specs::Moves::landed_contains_of))]
 fn landed_contains(
     kind: &[u8],
     key: &[u32],
@@ -283,6 +290,7 @@ fn landed_contains(
 }
 
 // WALK: one row on while c is below the key; else c has landed, and the call says what that means.
+#[tactic(auto, unfolding(crate::specs::Moves::walk_of))]
 fn walk(
     kind: &[u8],
     key: &[u32],
@@ -305,6 +313,7 @@ fn walk(
 }
 
 // SKIP: past removed rows, without another look at the key.
+#[tactic(auto, unfolding(crate::specs::Moves::skip_of))]
 fn skip(
     kind: &[u8],
     key: &[u32],
@@ -332,6 +341,7 @@ fn skip(
 }
 
 // ADDSWAP: the own row goes in behind p, unless something else than n stands there by now.
+#[tactic(auto, unfolding(crate::specs::Moves::add_swap_of))]
 fn add_swap(
     kind: &[u8],
     key: &[u32],
@@ -361,6 +371,7 @@ fn add_swap(
 }
 
 // MARK: the own splice goes in behind c, which removes c, unless something else stands there by now.
+#[tactic(auto, unfolding(crate::specs::Moves::mark_of))]
 fn mark(
     kind: &[u8],
     key: &[u32],
@@ -397,6 +408,7 @@ fn mark(
 }
 
 // REREAD: a splice behind c means that another party was first; else the own splice is led to what stands there now.
+#[tactic(auto, unfolding(crate::specs::Moves::reread_of))]
 fn reread(
     kind: &[u8],
     key: &[u32],
@@ -424,6 +436,7 @@ fn reread(
 }
 
 // CLEAN: p is led past the removed rows, unless something else stands behind p by now.
+#[tactic(auto, unfolding(crate::specs::Moves::clean_of))]
 fn clean(
     kind: &[u8],
     key: &[u32],
@@ -452,6 +465,7 @@ fn clean(
 }
 
 // BACK: from a removed p to the row that its splice names, and stay; from any other p the walk starts again.
+#[tactic(auto, unfolding(crate::specs::Moves::back_of))]
 fn go_back(
     kind: &[u8],
     key: &[u32],
@@ -486,6 +500,7 @@ fn go_back(
 }
 
 // LOOK below the key: one row on, through a splice.
+#[tactic(auto, unfolding(crate::specs::Moves::look_on_of))]
 fn look_on(
     kind: &[u8],
     key: &[u32],
@@ -520,6 +535,7 @@ fn look_on(
 }
 
 // LOOK: on while c is below the key; else c has landed.
+#[tactic(auto, unfolding(crate::specs::Moves::look_of))]
 fn look(
     kind: &[u8],
     key: &[u32],
