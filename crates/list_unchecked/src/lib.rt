@@ -89,6 +89,7 @@ fn start(state: State, party: Party, call: Call, wanted: u32) -> Begun
 }
 
 // A CONTAINS starts, and takes no row.
+#[tactic(auto, unfolding(crate::specs::Unchecked::begun_of))]
 fn look(state: State, party: Party, wanted: u32) -> Begun
     ensures { result ≡ begun_of state party Contains wanted }
 {
@@ -107,6 +108,7 @@ fn look(state: State, party: Party, wanted: u32) -> Begun
 }
 
 // A call starts.
+#[tactic(auto, unfolding(crate::specs::Unchecked::begun_of))]
 fn begin(state: State, party: Party, call: Call, wanted: u32) -> Begun
     ensures { result ≡ begun_of state party call wanted }
 {
