@@ -1,5 +1,6 @@
 // Good form: whether the four columns and the state are such as the entry points work on.
 #![tactic(auto)]
+
 ghost use Rattle.std.specs.Prelude.{◌≡◌, ◌+◌, length};
 ghost use Rattle.list_rows.specs.Table.{before};
 ghost use Rattle.list_unchecked.specs.Unchecked.{machine};
@@ -287,6 +288,7 @@ fn own_fits(place: Place, own: u16, unpublished: bool) -> bool
 }
 
 // Whether a party record has good form.
+#[tactic(auto, unfolding(crate::specs::Form::record_fits))]
 fn record_fits(taken: u16, party: Party) -> bool
     ensures { result ≡ record_fits taken party }
 {
@@ -335,6 +337,7 @@ fn tallies_fit(tallies: Tallies) -> bool
 }
 
 // The rows' part of good form, with so many rows taken.
+#[tactic(auto, unfolding(crate::specs::Form::good_rows))]
 fn good_rows(kind: &[u8], key: &[u32], next: &[u16], back: &[u16], taken: u16) -> bool
     ensures { result ≡ good_rows (before kind key next back) taken }
 {
@@ -347,6 +350,7 @@ fn good_rows(kind: &[u8], key: &[u32], next: &[u16], back: &[u16], taken: u16) -
 }
 
 // The parties' part of good form.
+#[tactic(auto, unfolding(crate::specs::Form::good_parties))]
 fn good_parties(state: State) -> bool
     ensures { result ≡ good_parties state }
 {
@@ -355,6 +359,7 @@ fn good_parties(state: State) -> bool
 }
 
 // Whether the columns and the state have good form. Refuses nothing, and does not ask for at most 4,096 rows (1).
+#[tactic(auto, unfolding(crate::specs::Form::good_form))]
 pub fn good_form(kind: &[u8], key: &[u32], next: &[u16], back: &[u16], state: State) -> bool
     ensures { result ≡ good_form (machine (before kind key next back) state) }
 {
