@@ -1,5 +1,6 @@
 // Key fields: four bytes at a place of a lent record, loaded and stored in either byte order.
 #![tactic(auto)]
+
 ghost use Rattle.std.specs.Prelude.{◌≡◌, ◌+◌, ◌*◌, ◌/◌, ◌%◌, ◌<◌, ◌≤◌, length, set};
 ghost use Rattle.refusal.specs.Answer.{verdict_is};
 ghost use Rattle.field.specs.Layout.{arranged};
@@ -37,6 +38,7 @@ pub enum Loaded {
 struct Four(u8, u8, u8, u8);
 
 // The number of four bytes, the high byte first.
+#[tactic(auto, using(crate::proofs::Laws::joined))]
 fn join(four: Four) -> u32
     ensures { result ≡ four.0 * 16777216 + four.1 * 65536 + four.2 * 256 + four.3 }
 {
@@ -88,6 +90,7 @@ fn put(bytes: &mut [u8], place: usize, byte: u8)
 }
 
 // Four bytes written from a place on, and no other.
+#[tactic(auto, using(crate::proofs::Laws::four_written))]
 fn put_four(bytes: &mut [u8], place: usize, four: Four)
     requires { place + 4 ≤ length bytes.old }
     ensures { bytes.new ≡ put_bytes bytes.old place (four_bytes four) }
@@ -123,6 +126,7 @@ fn runs_past(len: usize, place: usize) -> bool
 }
 
 // The tests of both entry points, in their order: 11, then 10.
+#[tactic(auto, unfolding(crate::specs::Field::field_tests))]
 fn field_verdict(len: usize, place: usize, code: u32) -> Verdict
     ensures { verdict_is result ≡ field_tests len place code }
 {
@@ -154,6 +158,7 @@ fn put_key(bytes: &mut [u8], place: usize, order: ByteOrder, key: u32)
 }
 
 // The key that the field at a place holds in the order that the code names, or the refusal.
+#[tactic(auto, using(crate::proofs::Entry::is_inside), unfolding(crate::specs::Field::load_of))]
 pub fn load(bytes: &[u8], place: usize, code: u32) -> Loaded
     ensures { loaded_is result ≡ load_of bytes.now place code }
 {
@@ -166,6 +171,7 @@ pub fn load(bytes: &[u8], place: usize, code: u32) -> Loaded
 
 // Writes the key's four bytes, in the order that the code names, to the field at a place,
 // or refuses and writes nothing.
+#[tactic(auto, using(crate::proofs::Entry::is_inside), unfolding(crate::specs::Field::store_of))]
 pub fn store(bytes: &mut [u8], place: usize, code: u32, key: u32) -> Verdict
     ensures { store_leaves bytes.new result ≡ store_of bytes.old place code key }
 {

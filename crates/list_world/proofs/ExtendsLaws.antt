@@ -25,9 +25,9 @@ module _ {w w' : World} (g : Intact w) (t : Extends w w') where
       rw (t.next x p m, t.rank (w.next x) (g.each x p).closed)
       (skip_cong _ _ _ _ (λ (z : w.rank (w.next x) ≡ 0). (t.splice (w.next x) (g.each x p).closed z).0))
 
-  pub chunk_ext : {a c : ℕ} → w.Pub a → Chunk w c a → Chunk w' c a
+  pub chunk_ext : {c a : ℕ} → w.Pub a → Chunk w c a → Chunk w' c a
   chunk_ext p (here e) = here e
-  chunk_ext {a} {c} p (pass m d) = pass (marked_ext p m) (subst (Chunk w' c) (sym (succ_ext p m)) (chunk_ext (pub_succ g a p) d))
+  chunk_ext {c = c} {a = a} p (pass m d) = pass (marked_ext p m) (subst (Chunk w' c) (sym (succ_ext p m)) (chunk_ext (pub_succ g a p) d))
 
 module _ {w : World} {f : ℕ → ℕ} {P : ℕ → Type 0} {p v : ℕ} (s : Relink w f P p v) where
   write_ext : ((y : ℕ) → w.Pub y → Open (put w f P) y → Open w y) →
@@ -58,9 +58,9 @@ module _ {w w' : World} (g : Intact w) (t : Same w w') where
   pub same_succ : (x : ℕ) → w.Pub x → succ w' x ≡ succ w x
   same_succ x p = rw (t.next x p, t.rank (w.next x) (g.each x p).closed, t.next (w.next x) (g.each x p).closed)
 
-  pub same_reach : {x y : ℕ} → w.Pub x → Reach w y x → Reach w' y x
+  pub same_reach : {y x : ℕ} → w.Pub x → Reach w y x → Reach w' y x
   same_reach p (stop e) = stop e
-  same_reach {x} {y} p (step h r) = step {a = x} (rw (t.rank x p, t.rank 2 g.two.known) h)
+  same_reach {y = y} {x = x} p (step h r) = step {a = x} (rw (t.rank x p, t.rank 2 g.two.known) h)
       (subst (Reach w' y) (sym (same_succ x p)) (same_reach (pub_succ g x p) r))
 
   same_row : {x : ℕ} → Proper w x → Proper w' x
@@ -101,9 +101,9 @@ module _ {w w' : World} (g : Intact w) (t : Same w w') where
         reach = rw (q, one, two, same_next x p) (λ a b o. same_reach g.one.known (h.reach a b o));
       }
 
-  same_back : {x y : ℕ} → w.Pub x → Reach w' y x → Reach w y x
+  same_back : {y x : ℕ} → w.Pub x → Reach w' y x → Reach w y x
   same_back p (stop e) = stop e
-  same_back {x} {y} p (step h r) =
+  same_back {y = y} {x = x} p (step h r) =
       step {a = x} (rw (t.rank x p, t.rank 2 g.two.known) at h) (subst (Reach w y) (same_succ x p) (same_back (rw (same_succ x p) (pub_succ g x p)) r))
 
   pub same_ext : Extends w w'

@@ -29,29 +29,29 @@ module _ {w : World} (g : Intact w) where
   pub row_succ : {a : ℕ} → Proper w a → w.rank a < w.rank 2 → Proper w (succ w a)
   row_succ r h = record { known = pub_succ _ r.known; pos = omega (arith, ((g.each _ r.known).rises r.pos h).0) }
 
-  pub reach_le : {a c : ℕ} → Proper w a → Reach w c a → w.rank a ≤ w.rank c
+  pub reach_le : {c a : ℕ} → Proper w a → Reach w c a → w.rank a ≤ w.rank c
   reach_le r (stop e) = omega (arith, ap w.rank e)
   reach_le r (step h s) = omega (arith, ((g.each _ r.known).rises r.pos h).0, reach_le (row_succ r h) s)
 
   -- two rows that are reached from one row: the higher is reached from the lower
-  pub reach_linear : {a x y : ℕ} → Proper w a → Reach w x a → Reach w y a → w.rank x ≤ w.rank y → Reach w y x
-  reach_linear {a} {x} {y} r (stop e) s h = subst (Reach w y) e s
-  reach_linear {a} {x} {y} r (step l s) (stop e) h =
+  pub reach_linear : {x y a : ℕ} → Proper w a → Reach w x a → Reach w y a → w.rank x ≤ w.rank y → Reach w y x
+  reach_linear {y = y} r (stop e) s h = subst (Reach w y) e s
+  reach_linear {a = a} r (step l s) (stop e) h =
       absurd (omega (arith, ((g.each _ r.known).rises r.pos l).0, reach_le (row_succ r l) s, ap w.rank e))
-  reach_linear {a} {x} {y} r (step l s) (step k t) h = reach_linear (row_succ r l) s t h
+  reach_linear r (step l s) (step k t) h = reach_linear (row_succ r l) s t h
 
   -- the end of a chunk lies on the list too
-  pub chunk_row : {a e : ℕ} → Proper w a → w.rank a ≤ w.rank 2 → Chunk w e a → Proper w e × (w.rank a ≤ w.rank e) × (w.rank e ≤ w.rank 2)
+  pub chunk_row : {e a : ℕ} → Proper w a → w.rank a ≤ w.rank 2 → Chunk w e a → Proper w e × (w.rank a ≤ w.rank e) × (w.rank e ≤ w.rank 2)
   chunk_row r h (here q) = (rw q at r, rw q (le_refl _), rw q at h)
-  chunk_row {a} r h (pass m c) =
+  chunk_row {a = a} r h (pass m c) =
       let l = ((g.each a r.known).gone m).high in
       let s = (g.each a r.known).rises r.pos l in
       let t = chunk_row (row_succ r l) s.1 c in
       (t.0, omega arith, t.2)
 
-  pub chunk_reach : {a e y : ℕ} → w.Pub a → Chunk w e a → Reach w y e → Reach w y a
+  pub chunk_reach : {e y a : ℕ} → w.Pub a → Chunk w e a → Reach w y e → Reach w y a
   chunk_reach {y = y} p (here q) r = subst (Reach w y) (sym q) r
-  chunk_reach {a} p (pass m c) r = step ((g.each a p).gone m).high (chunk_reach (pub_succ a p) c r)
+  chunk_reach {a = a} p (pass m c) r = step ((g.each a p).gone m).high (chunk_reach (pub_succ a p) c r)
 
   -- only row 1 is reached from row 1 by a chunk, so what swings past a row is not row 0
   pub not_first : {p e : ℕ} → Proper w p → Chunk w e (w.next p) → w.rank 1 < w.rank e → w.rank 1 ≤ w.rank p
@@ -71,12 +71,12 @@ reach_past {w} {y} o (here e) r = subst (Reach w y) e r
 reach_past {w} {y} o (pass m c) (stop e) = let z : w.rank (w.next y) ≡ 0 = rw (← e) m in absurd (omega arith)
 reach_past o (pass m c) (step l r) = reach_past o c r
 
-pub chunk_trans : {w : World} {a b c : ℕ} → Chunk w b a → Chunk w c b → Chunk w c a
-chunk_trans {w} {a} {b} {c} (here e) d = subst (Chunk w c) (sym e) d
+pub chunk_trans : {w : World} {b c a : ℕ} → Chunk w b a → Chunk w c b → Chunk w c a
+chunk_trans {w = w} {c = c} (here e) d = subst (Chunk w c) (sym e) d
 chunk_trans (pass m x) d = pass m (chunk_trans x d)
 
-pub reach_snoc : {w : World} {a p : ℕ} → w.rank p < w.rank 2 → Reach w p a → Reach w (succ w p) a
-reach_snoc {w} {a} h (stop e) = step {a = a} (rw e h) (stop (ap (succ w) e))
+pub reach_snoc : {w : World} {p a : ℕ} → w.rank p < w.rank 2 → Reach w p a → Reach w (succ w p) a
+reach_snoc {w = w} {a = a} h (stop e) = step {a = a} (rw e h) (stop (ap (succ w) e))
 reach_snoc h (step l r) = step l (reach_snoc h r)
 
 module _ {w : World} (g : Intact w) where
