@@ -1,5 +1,4 @@
 -- What a move says, in the document's words: each case of the code's enums with its value or its number.
-use Rattle.std.specs.Prelude.{ℕ}
 use Rattle.refusal.specs.Number.{number_of}
 use Rattle.refusal.specs.Answer.{Answer, accepted, refused}
 use Rattle.calls.specs.declared.Said.{Said}

@@ -1,5 +1,6 @@
 // The words of calls and answers: calls by code, what a move says, what came of an access, replies, the tallies.
 #![tactic(auto)]
+
 ghost use Rattle.std.specs.Prelude.{◌≡◌};
 ghost use Rattle.calls.specs.Calls.{call_named, code_of, is_add, is_remove, is_contains};
 ghost use Rattle.calls.specs.Tallies.{one_more, no_tallies, counted};

@@ -1,5 +1,6 @@
 // Total reads and writes of one lent column: past the end a read gives 0 and a write does nothing.
 #![tactic(auto)]
+
 ghost use Rattle.std.specs.Prelude.{◌≡◌, length};
 ghost use Rattle.columns.specs.Column.{at, put, zeros};
 

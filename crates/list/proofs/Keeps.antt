@@ -86,14 +86,14 @@ more_link T T' to false more h = h
 pub row_keeps : (T T' : ℕ) (t : Table) (row kind key next back : ℕ) → Rows T t →
     T ≤ T' → T' ≤ length t.kind → ((other : ℕ) → other ≢ row → ltb other T' ≡ ltb other T) →
     row < T' → kind_fits T' row kind ≡ true → next < T' → back < T' → Rows T' (with_row t row kind key next back)
-row_keeps T T' t row kind key next back g more room same inside kind_fits next_below back_below =
+row_keeps T T' t row kind key next back g more room same inside its_kind next_below back_below =
     record {
       key_long = length-set t.key row key ∙ g.key_long ∙ rw (length-set t.kind row kind);
       next_long = length-set t.next row next ∙ g.next_long ∙ rw (length-set t.kind row kind);
       back_long = length-set t.back row back ∙ g.back_long ∙ rw (length-set t.kind row kind);
       ends = omega arith;
       room = rw (length-set t.kind row kind) room;
-      kinds = put_fits (kind_fits T') t.kind row kind (λ other p e. rw (same other e) (g.kinds other p)) kind_fits;
+      kinds = put_fits (kind_fits T') t.kind row kind (λ other p e. rw (same other e) (g.kinds other p)) its_kind;
       keys = put_fits (key_fits T') t.key row key (λ other p e. rw (same other e) (g.keys other p)) (rw (lt-ltb row T' inside));
       nexts = put_fits (link_fits T') t.next row next
           (λ other p e. rw (same other e) (more_link T T' (at t.next other) (ltb other T) more (g.nexts other p)))

@@ -1,12 +1,12 @@
 -- The entry points case by case: what the tests found, and what is then answered and left.
 -- Assumes nothing.
 use Prim.{Unit}
-use mathlib.Core.Path.{◌≡◌, refl, ap, ◌∙◌}
-use mathlib.Core.Bool.{Bool, true, false, not, true≢false, ◌||◌, ◌&&◌}
+use mathlib.Core.Path.{◌≡◌, ap, ◌∙◌}
+use mathlib.Core.Bool.{Bool, true, false, not, ◌&&◌}
 use mathlib.Core.List.{List}
-use Prim.Native.Nat.{ℕ, zero, suc, ◌≤◌}
+use Prim.Native.Nat.{ℕ, ◌≤◌}
 use native.Mathlib.Nat.{zero-add}
-use lib.ListN.{length, get_or, replicate}
+use lib.ListN.{length}
 use lib.Seq.{sets, sets-eq}
 use lib.Dec.{eqb, ltb, leb}
 use borrow.Author.Tests.{ltb-false, leb-true, eqb-true, not-false}
@@ -20,7 +20,6 @@ use Rattle.refusal.proofs.Told.{tests_told}
 use Rattle.calls.specs.Words.{word_of}
 use Rattle.list_rows.specs.Table.{Table}
 use Rattle.calls.specs.declared.Call.{Call}
-use Rattle.calls.specs.declared.Call.TheVariants.{Contains}
 use Rattle.list_party.specs.declared.State.{State}
 use Rattle.calls.specs.declared.Said.{Said}
 use Rattle.list_unchecked.specs.Unchecked.{Machine, machine, made, unchecked_call, unchecked_move}

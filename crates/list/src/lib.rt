@@ -1,5 +1,6 @@
 // The entry points of the list: set-up, call, move and listing, each with its refusals in their order.
 #![tactic(auto)]
+
 ghost use Rattle.std.specs.Prelude.{◌≡◌, not, ltb};
 ghost use Rattle.refusal.specs.Answer.{left, verdict_is, refusing, passed};
 ghost use Rattle.list_rows.specs.Table.{before, before_mut, after};

@@ -1,5 +1,6 @@
 // The chain that a listing follows: whether it rises, how many live keys are on it, and the keys themselves.
 #![tactic(auto)]
+
 ghost use Rattle.std.specs.Prelude.{◌≡◌, cond, length, set};
 ghost use Rattle.std.proofs.lemmas.List.Edits.{sets};
 ghost use Rattle.list_rows.specs.Table.{before, head_nxt};

@@ -1,5 +1,6 @@
 // What set-up lays down in the columns: an empty list.
 #![tactic(auto)]
+
 ghost use Rattle.std.specs.Prelude.{◌≡◌, length};
 ghost use Rattle.columns.specs.Column.{zeros};
 ghost use Rattle.list_rows.specs.Table.{before_mut, after, head_nxt, tail, tail_nxt};

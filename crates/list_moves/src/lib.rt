@@ -1,5 +1,6 @@
 // The moves, one function for each place: what a party does with the one access that it makes there.
 #![tactic(auto)]
+
 ghost use Rattle.std.specs.Prelude.{◌≡◌};
 ghost use Rattle.list_rows.specs.Table.{before};
 ghost use Rattle.list_moves.specs.Moves.{

@@ -1,6 +1,5 @@
 -- Party records: what a party keeps, at which place, and its own row (document 01, "Rows and parties").
 use Rattle.std.specs.Prelude.{Bool, true, false, cond, ℕ}
-use Rattle.calls.specs.declared.Call.{Call}
 use Rattle.calls.specs.declared.Call.TheVariants.{Contains}
 use Rattle.calls.specs.declared.Asked.{Asked}
 use Rattle.calls.specs.Calls.{asked}

@@ -1,5 +1,6 @@
 // Parties and the state: what a party record holds, a record at its next place, the party table.
 #![tactic(auto)]
+
 ghost use Rattle.std.specs.Prelude.{◌≡◌};
 ghost use Rattle.calls.specs.Tallies.{one_more};
 ghost use Rattle.list_party.specs.Party.{blank, spare_of, idling, published, goes_to, is_idle, asked_at};

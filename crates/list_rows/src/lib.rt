@@ -1,5 +1,6 @@
 // Rows: the four end rows, the kinds, the order, and the writes that a call or a move makes in the four lent columns.
 #![tactic(auto)]
+
 ghost use Rattle.std.specs.Prelude.{◌≡◌, eqb, ltb};
 ghost use Rattle.columns.specs.Column.{at};
 ghost use Rattle.list_rows.specs.Table.{before_mut, after, with_row};

@@ -1,6 +1,7 @@
 // A call and a move without any test. They refuse nothing: they serve the entry points of `list`, which test first,
 // and programs that start from a set-up of their own.
 #![tactic(auto)]
+
 ghost use Rattle.std.specs.Prelude.{◌≡◌};
 ghost use Rattle.calls.specs.declared.Call.TheVariants.{Contains};
 ghost use Rattle.list_rows.specs.Table.{before_mut, after};

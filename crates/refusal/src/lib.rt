@@ -1,5 +1,6 @@
 // The refusals of the engine by plain names, the number of each, and the verdict of an entry point's tests.
 #![tactic(auto)]
+
 ghost use Rattle.std.specs.Prelude.{◌≡◌};
 ghost use Rattle.refusal.specs.Number.{number_of};
 

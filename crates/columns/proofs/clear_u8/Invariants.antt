@@ -7,7 +7,7 @@ abbrev pub invariant-loop-row : goal.invariant-loop-row
 invariant-loop-row l = record {
   within : l.row ≤ length l.fn.column;
   long : length l.column ≡ length l.fn.column;
-  so_far : l.column ≡ cleared l.fn.column l.row
+  so_far : l.column ≡ cleared l.fn.column l.row;
 }
 
 abbrev pub decreases-loop-row : goal.decreases-loop-row

@@ -24,7 +24,7 @@ loop-left-preserved c =
       within = omega arith;
       rest = c.loop-left.invariant.rest
           ∙ rises_on t c.loop-left.row c.loop-left.left (omega arith) c.if-row.false c.row_behind-later.ensures
-          (sym c.below.ensures ∙ c.if-not-below.false)
+          (sym c.below.ensures ∙ c.if-not-below.false);
     }
 
 pub returns : goal.returns

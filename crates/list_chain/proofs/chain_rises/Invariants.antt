@@ -7,7 +7,7 @@ use Rattle.list_chain.proofs.chain_rises.Given as goal
 abbrev pub invariant-loop-left : goal.invariant-loop-left
 invariant-loop-left l = record {
   within : l.left ≤ l.fn.taken;
-  rest : rises (tab l.fn.kind l.fn.key l.fn.next l.fn.back) l.fn.taken 1 ≡ rises (tab l.fn.kind l.fn.key l.fn.next l.fn.back) l.left l.row
+  rest : rises (tab l.fn.kind l.fn.key l.fn.next l.fn.back) l.fn.taken 1 ≡ rises (tab l.fn.kind l.fn.key l.fn.next l.fn.back) l.left l.row;
 }
 
 abbrev pub decreases-loop-left : goal.decreases-loop-left

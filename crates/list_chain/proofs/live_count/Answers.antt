@@ -17,7 +17,7 @@ loop-left-preserved c =
       within = omega arith;
       so_far = c.loop-left.invariant.so_far
           ∙ count_on t c.loop-left.row c.loop-left.left (omega arith) c.if-row.false
-          c.is_live.ensures c.one_if-count.ensures c.row_behind-row.ensures c.loop-left.count
+          c.is_live.ensures c.one_if-count.ensures c.row_behind-row.ensures c.loop-left.count;
     }
 
 pub returns : goal.returns

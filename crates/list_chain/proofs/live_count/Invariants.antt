@@ -8,7 +8,7 @@ abbrev pub invariant-loop-left : goal.invariant-loop-left
 invariant-loop-left l = record {
   within : l.count + l.left ≤ l.fn.taken;
   so_far : length (live_from (tab l.fn.kind l.fn.key l.fn.next l.fn.back) l.fn.taken 1)
-      ≡ l.count + length (live_from (tab l.fn.kind l.fn.key l.fn.next l.fn.back) l.left l.row)
+      ≡ l.count + length (live_from (tab l.fn.kind l.fn.key l.fn.next l.fn.back) l.left l.row);
 }
 
 abbrev pub decreases-loop-left : goal.decreases-loop-left

@@ -20,7 +20,7 @@ loop-left-preserved c =
       so_far = c.loop-left.invariant.so_far
           ∙ put_on t c.loop-left.row c.loop-left.left (omega arith) c.if-row.false
           c.is_live-live.ensures c.one_if-place.ensures c.row_behind-row.ensures
-          c.loop-left.places c.loop-left.place c.read_u32.ensures c.put_if.ensures
+          c.loop-left.places c.loop-left.place c.read_u32.ensures c.put_if.ensures;
     }
 
 pub returns : goal.returns

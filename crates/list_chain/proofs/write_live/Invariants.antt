@@ -10,7 +10,7 @@ invariant-loop-left l = record {
   within : l.place + l.left ≤ l.fn.taken;
   long : length l.places ≡ length l.fn.places;
   so_far : sets l.fn.places 0 (live_from (tab l.fn.kind l.fn.key l.fn.next l.fn.back) l.fn.taken 1)
-      ≡ sets l.places l.place (live_from (tab l.fn.kind l.fn.key l.fn.next l.fn.back) l.left l.row)
+      ≡ sets l.places l.place (live_from (tab l.fn.kind l.fn.key l.fn.next l.fn.back) l.left l.row);
 }
 
 abbrev pub decreases-loop-left : goal.decreases-loop-left
