@@ -13,7 +13,7 @@ use lib.Seq.{set_out, get_or-set_same, get_or-set_other}
 use borrow.Author.Tests.{lt-ltb}
 use Rattle.columns.specs.Column.{at, put}
 use Rattle.list_rows.specs.declared.Write.{Write}
-use Rattle.list_rows.specs.declared.Write.TheVariants.{Untouched, Link, Splice}
+use Rattle.list_rows.specs.declared.Write.TheVariants.{Untouched, Link, Splice, Item}
 use Rattle.list_rows.specs.Table.{Table, key_at, next_at, with_row}
 use Rattle.list_rows.specs.Writes.{written}
 use Rattle.list_rows.specs.Order.{rank, rank_at}
@@ -108,6 +108,7 @@ plain_small : (write : Write) (t : Table) → NoItem write → KeysSmall t → K
 plain_small Untouched t plain old = old
 plain_small (Link row to) t plain old = old
 plain_small (Splice row to from) t plain old = put_small t.key row 0 (omega arith) old
+plain_small (Item _ _) t plain old = elim plain [ ]
 
 -- ---- the tallies
 

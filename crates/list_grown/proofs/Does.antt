@@ -1,13 +1,13 @@
 -- The moves as a relation: one case for each way that a move can go, with what its tests have found. Everything that is proved of moves goes by these cases.
 -- Assumes nothing.
 use Prim.Native.Nat.{ℕ, zero, suc, ◌+◌, ◌≤◌, ◌<◌}
-use mathlib.Core.Path.{◌≡◌, refl}
+use mathlib.Core.Path.{◌≡◌}
 use mathlib.Core.Logic.{◌≢◌}
 use mathlib.Core.Bool.{true, false, not, cond, ◌&&◌, ◌||◌, true≢false}
 use native.Mathlib.Omega.{arith}
 use lib.Dec.{eqb}
 use borrow.Author.Tests.{ltb-true, ltb-false, eqb-true, eqb-false}
-use Rattle.list_rows.specs.declared.Write.TheVariants.{Untouched, Link, Splice}
+use Rattle.list_rows.specs.declared.Write.TheVariants.{Link, Splice}
 use Rattle.list_rows.specs.Table.{Table, kind_at, key_at, next_at, back_at, is_splice}
 use Rattle.list_rows.specs.Order.{end_rank, rank, rank_at, below_key, equals_key}
 use Rattle.calls.specs.declared.Call.{Call}

@@ -31,22 +31,7 @@ use Rattle.list_grown.specs.Rest.{row_after}
 use Rattle.list_grown.proofs.Party.{At}
 use Rattle.list_grown.proofs.View.{View, world, Inv, Steady}
 use Rattle.list_grown.proofs.Machine.{view_of, world_of, change_of}
-use Rattle.list_grown.proofs.Does.{
-  Does,
-  does,
-  passes,
-  steps,
-  cut_other,
-  cut_late,
-  cut_ready,
-  cut_again,
-  cut_done,
-  mark_wins,
-  clean_wins,
-  clean_loses,
-  backs,
-  back_ends,
-}
+use Rattle.list_grown.proofs.Does.{Does, does, passes, steps, cut_other, cut_late, cut_ready, cut_again, cut_done, mark_wins, clean_wins, clean_loses, backs, back_ends, add_finds, add_loses, add_ready, add_skips, add_wins, look_finds, look_late, look_other, look_passes, look_steps, mark_loses, rereads, rereads_late, skip_ends, skips}
 use Rattle.list_grown.proofs.Steps.{clean_swings}
 use Rattle.list_grown.proofs.Advance.{Advances, moves, spares, takes, asks, Advanced, party_after}
 use Rattle.list_grown.proofs.Listing.{behind_is, no_splice}
@@ -163,6 +148,22 @@ module _ (orphan : ℕ → Bool) (m : Machine) where
       does_cares x (backs M) a p r s o (at_back e) = (o, at_back e)
       does_cares x (back_ends u) a p r s o (at_back e) =
           (o, at_walk e a.1.shown (walk_from g a.0 u).row (onto_next g a.0.row u (omega (arith, a.0.low)) (omega (arith, a.0.key)) r))
+      does_cares x (add_skips {k = k} _ _) a p r s o x22 = elim x22 [ ]
+      does_cares x (add_finds {k = k} _ _) a p r s o x23 = elim x23 [ ]
+      does_cares x (add_ready {k = k} _ _) a p r s o x24 = elim x24 [ ]
+      does_cares x (skips {k = k} _) a p r s o x21 = elim x21 [ ]
+      does_cares x (skip_ends {k = k} _) a p r s o x22 = elim x22 [ ]
+      does_cares x (add_wins {k = k} _) a p r s o x23 = elim x23 [ ]
+      does_cares x (add_loses {k = k} _) a p r s o x24 = elim x24 [ ]
+      does_cares x (mark_wins {k = k} _) a p r s o x25 = elim x25 [ ]
+      does_cares x (mark_loses {k = k} _) a p r s o x26 = elim x26 [ ]
+      does_cares x (rereads_late {k = k} _) a p r s o x27 = elim x27 [ ]
+      does_cares x (rereads {k = k} _) a p r s o x28 = elim x28 [ ]
+      does_cares x (look_passes {k = k} _ _) a p r s o x33 = elim x33 [ ]
+      does_cares x (look_steps {k = k} _ _) a p r s o x34 = elim x34 [ ]
+      does_cares x (look_other {k = k} _ _) a p r s o x35 = elim x35 [ ]
+      does_cares x (look_late {k = k} _ _) a p r s o x36 = elim x36 [ ]
+      does_cares x (look_finds {k = k} _ _) a p r s o x37 = elim x37 [ ]
 
       -- a REMOVE that wins its MARK goes to CLEAN
       does_takes : {l : Place} {moved : Moved} (deed : Deed) (w' : World) → Does t q l moved deed → Takes w' moved.party (change_of deed q.own)

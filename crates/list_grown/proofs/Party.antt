@@ -123,26 +123,38 @@ module _ {w w' : World} (g : Intact w) (t : Extends w w') (q : Party) (own : (x 
   mine_ext : (call : Call) (K : ℕ) → Mine w call q.own q.unpublished q.r K → Mine w' call q.own q.unpublished q.r K
   mine_ext Add K h = item_ext h
   mine_ext Remove K h = ⊎_elim (λ a. inl (item_ext a)) (λ b. inr (done_ext b)) h
+  mine_ext Contains K h = elim h [ ]
 
   away_ext : (call : Call) (K : ℕ) → Away w call q.own q.unpublished q.r K → Away w' call q.own q.unpublished q.r K
   away_ext Add K h = item_ext h
   away_ext Remove K h = done_ext h
+  away_ext Contains K h = elim h [ ]
 
   adds_ext : (call : Call) (K : ℕ) → Adds w call q.own q.unpublished K → Adds w' call q.own q.unpublished K
   adds_ext Add K h = item_ext h
+  adds_ext Remove K h = elim h [ ]
+  adds_ext Contains K h = elim h [ ]
 
   cuts_ext : (call : Call) → Cuts w call q.own q.unpublished q.p → Cuts w' call q.own q.unpublished q.p
   cuts_ext Remove h = knife_ext h
+  cuts_ext Add h = elim h [ ]
+  cuts_ext Contains h = elim h [ ]
 
   ends_ext : (call : Call) → Ends w call q.own q.unpublished q.r → Ends w' call q.own q.unpublished q.r
   ends_ext Remove h = done_ext h
+  ends_ext Add h = elim h [ ]
+  ends_ext Contains h = elim h [ ]
 
   -- the own row of an ADD, and of a REMOVE that has not marked, is hidden
   adds_hidden : (call : Call) (K : ℕ) → Adds w call q.own q.unpublished K → q.unpublished ≡ true
   adds_hidden Add K h = h.hidden
+  adds_hidden Remove K h = elim h [ ]
+  adds_hidden Contains K h = elim h [ ]
 
   cuts_hidden : (call : Call) → Cuts w call q.own q.unpublished q.p → q.unpublished ≡ true
   cuts_hidden Remove h = h.hidden
+  cuts_hidden Add h = elim h [ ]
+  cuts_hidden Contains h = elim h [ ]
 
   rank_c : {K p n c : ℕ} → OnWay w K p n c → w'.rank c ≡ w.rank c
   rank_c {c = c} h = t.rank c (at_c g h).0.known

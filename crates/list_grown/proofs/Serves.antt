@@ -22,35 +22,8 @@ use Rattle.list_world.proofs.World.{World}
 use Rattle.list_world.proofs.Live.{LiveRank}
 use Rattle.list_grown.specs.Deeds.{Deed, add_won, mark_won, deed_at}
 use Rattle.list_grown.proofs.Machine.{world_of}
-use Rattle.list_grown.proofs.Does.{
-  Does,
-  passes,
-  steps,
-  add_skips,
-  add_finds,
-  add_ready,
-  cut_other,
-  cut_late,
-  cut_ready,
-  cut_again,
-  cut_done,
-  skips,
-  skip_ends,
-  add_wins,
-  add_loses,
-  mark_wins,
-  mark_loses,
-  rereads_late,
-  rereads,
-  backs,
-  back_ends,
-  look_passes,
-  look_steps,
-  look_other,
-  look_late,
-  look_finds,
-}
-use Rattle.list_grown.proofs.Replies.{Told, add_yes, add_no, cut_yes, look_yes}
+use Rattle.list_grown.proofs.Does.{Does, passes, steps, add_skips, add_finds, add_ready, cut_other, cut_late, cut_ready, cut_again, cut_done, skips, skip_ends, add_wins, add_loses, mark_wins, mark_loses, rereads_late, rereads, backs, back_ends, look_passes, look_steps, look_other, look_late, look_finds, clean_loses, clean_wins}
+use Rattle.list_grown.proofs.Replies.{Told, add_yes, add_no, cut_yes, look_yes, clean_yes, cut_no, look_no, reread_no}
 use Rattle.list_grown.proofs.Track.{Seeks, walks, marks, again, looks}
 
 -- ---- places
@@ -100,6 +73,8 @@ does_goes (look_steps b o) look = goes look
 does_goes (look_other b n) look = ends refl
 does_goes (look_late b o) look = ends refl
 does_goes (look_finds b o) look = ends refl
+does_goes {t = t} {q = q} {k = k} {call = call} (clean_wins _) x9 = elim x9 [ ]
+does_goes {t = t} {q = q} {k = k} {call = call} (clean_loses _) x10 = elim x10 [ ]
 
 -- a party that is still busy serves its call if it has not marked
 pub marks_or_serves : {k : ℕ} {call : Call} {deed : Deed} {said : Said} {q : Party} → Goes k call deed said q →
@@ -135,13 +110,25 @@ module _ (orphan : ℕ → Bool) (m : Machine) where
   -- only a won add swap says yes to an ADD
   pub add_told : {q : Party} {k : ℕ} {l : Place} → Told w q l Yes → Serves q k Add l → deed_at l m.table q ≡ add_won k
   add_told {q} (add_yes e) (swap f) = rw (eq-eqb (next_at m.table q.p) q.n e)
+  add_told {q = q} {k = k} (cut_yes _) x6 = elim x6 [ ]
+  add_told {q = q} {k = k} clean_yes x5 = elim x5 [ ]
+  add_told {q = q} {k = k} (look_yes _) x8 = elim x8 [ ]
 
   pub found_told : {q : Party} {k : ℕ} {l : Place} → Told w q l No → Serves q k Add l → LiveRank w (3 + k)
   found_told (add_no live) (walk f) = live
+  found_told {q = q} {k = k} (cut_no _) x6 = elim x6 [ ]
+  found_told {q = q} {k = k} (reread_no _) x7 = elim x7 [ ]
+  found_told {q = q} {k = k} (look_no _) x8 = elim x8 [ ]
 
   pub look_told : {q : Party} {k : ℕ} {l : Place} → Told w q l Yes → Serves q k Contains l → LiveRank w (3 + k)
   look_told (look_yes live) look = live
+  look_told {q = q} {k = k} (add_yes _) x6 = elim x6 [ ]
+  look_told {q = q} {k = k} (cut_yes _) x7 = elim x7 [ ]
+  look_told {q = q} {k = k} clean_yes x6 = elim x6 [ ]
 
   -- a REMOVE that has not marked does not say yes
   pub cut_told : {q : Party} {k : ℕ} {l : Place} → Told w q l Yes → Serves q k Remove l → ⊥
   cut_told (cut_yes shown) (walk hidden) = true≢false (sym hidden ∙ shown)
+  cut_told {q = q} {k = k} (add_yes _) x6 = elim x6 [ ]
+  cut_told {q = q} {k = k} clean_yes x5 = elim x5 [ ]
+  cut_told {q = q} {k = k} (look_yes _) x8 = elim x8 [ ]

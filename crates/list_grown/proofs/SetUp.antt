@@ -8,7 +8,6 @@ use native.Mathlib.Omega.{arith}
 use lib.ListN.{length-set, length-replicate}
 use Rattle.refusal.specs.Answer.{left, passed}
 use Rattle.refusal.proofs.Laws.{change_past}
-use Rattle.columns.specs.Column.{at}
 use Rattle.list_rows.specs.Table.{Table}
 use Rattle.list_rows.specs.Order.{rank}
 use Rattle.list_party.specs.Party.{blank}

@@ -29,9 +29,9 @@ use Rattle.list_grown.specs.Deeds.{Deed}
 use Rattle.list_grown.proofs.Party.{At}
 use Rattle.list_grown.proofs.View.{View, world, Inv, Steady}
 use Rattle.list_grown.proofs.Machine.{view_of, world_of, change_of}
-use Rattle.list_grown.proofs.Does.{Does, does, passes, steps, cut_ready, cut_again, mark_wins, mark_loses, rereads, look_passes, look_steps}
+use Rattle.list_grown.proofs.Does.{Does, does, passes, steps, cut_ready, cut_again, mark_wins, mark_loses, rereads, look_passes, look_steps, add_finds, add_loses, add_ready, add_skips, add_wins, back_ends, backs, clean_loses, clean_wins, cut_done, cut_late, cut_other, look_finds, look_late, look_other, rereads_late, skip_ends, skips}
 use Rattle.list_grown.proofs.Advance.{begun, asking, Advances, moves, spares, takes, asks, Advanced, party_after}
-use Rattle.list_grown.proofs.Replies.{Missed, Told, cut_no, reread_no, look_no, said_by, move_reply}
+use Rattle.list_grown.proofs.Replies.{Missed, Told, cut_no, reread_no, look_no, said_by, move_reply, add_no}
 
 -- ---- who looks for a key
 
@@ -90,6 +90,7 @@ not_no : {w : World} {q : Party} {K : ℕ} {l : Place} → Told w q l No → See
 not_no (cut_no n) (walks e f) live t = reached live t (rw e at n)
 not_no (reread_no n) (again e) live t = reached live t (rw e at n)
 not_no (look_no n) (looks e) live t = reached live t (rw e at n)
+not_no {w = w} {q = q} {K = K} (add_no {k = k} _) x12 live t = elim x12 [ ]
 
 -- ---- a event that leaves the key live
 
@@ -150,6 +151,24 @@ module _ (orphan : ℕ → Bool) (m : Machine) (v : Inv (view_of orphan m)) (i :
     follows (rereads o) (again e) g = inr (stays ρ _ (marks e) refl)
     follows (look_passes b M) (looks e) g = inr (goes_on_lem _ (looks e) (omega arith) (rw M))
     follows (look_steps b o) (looks e) g = inr (goes_on_lem _ (looks e) (omega arith) (sym (succ_open w q.c o)))
+    follows (add_skips {k = k} _ _) x14 g = elim x14 [ ]
+    follows (add_finds {k = k} _ _) x15 g = elim x15 [ ]
+    follows (add_ready {k = k} _ _) x16 g = elim x16 [ ]
+    follows (cut_other {k = k} _ _ _) _ g = elim g [ ]
+    follows (cut_late {k = k} _ _ _) _ g = elim g [ ]
+    follows (cut_done {k = k} _ _ _) _ g = elim g [ ]
+    follows (skips {k = k} _) x16 g = elim x16 [ ]
+    follows (skip_ends {k = k} _) x17 g = elim x17 [ ]
+    follows (add_wins {k = k} _) x18 g = elim x18 [ ]
+    follows (add_loses {k = k} _) x19 g = elim x19 [ ]
+    follows (rereads_late {k = k} _) _ g = elim g [ ]
+    follows (clean_wins {k = k} _) x21 g = elim x21 [ ]
+    follows (clean_loses {k = k} _) x22 g = elim x22 [ ]
+    follows (backs {call = call} {k = k} _) x23 g = elim x23 [ ]
+    follows (back_ends {call = call} {k = k} _) x24 g = elim x24 [ ]
+    follows (look_other {k = k} _ _) _ g = elim g [ ]
+    follows (look_late {k = k} _ _) _ g = elim g [ ]
+    follows (look_finds {k = k} _ _) _ g = elim g [ ]
 
   -- a key that is still live has not been taken out
   own_move : {K : ℕ} {moved : Moved} {deed : Deed} (m' : Machine) → party_of m' i ≡ moved.party → Does m.table q q.place moved deed →
