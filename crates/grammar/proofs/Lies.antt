@@ -1,16 +1,10 @@
 -- What lies ahead in a text is read, and the reading ends where the rest lies ahead: words, numbers, hex digits.
 -- Assumes nothing.
-use mathlib.Core.Path.{◌≡◌, refl, ap, sym, subst, ◌∙◌}
-use mathlib.Core.Bool.{Bool, true, false, cond, true≢false}
-use mathlib.Core.List.{List, [], ◌∷◌, ◌++◌, append_assoc}
-use Prim.Native.Nat.{ℕ, zero, suc, ◌+◌, ◌*◌, ◌<◌, ◌≤◌}
+use Rattle.std.proofs.Common.{◌≡◌, refl, ap, sym, subst, ◌∙◌, Bool, true, false, cond, true≢false, List, [], ◌∷◌, ◌++◌, append_assoc, ℕ, zero, suc, ◌+◌, ◌*◌}
+use Rattle.std.proofs.Common.{◌<◌, ◌≤◌, add-zero, arith, length, get_or, take, drop, length-append, length-drop, take-append-drop, length-take-le}
+use Rattle.std.proofs.Common.{get_or-drop, drop-drop, eqb, lt-ltb, eq-eqb}
 use Prim.Native.String.{String}
-use native.Mathlib.Nat.{add-zero}
-use native.Mathlib.Omega.{arith}
-use lib.ListN.{length, get_or, take, drop, length-append, length-drop, take-append-drop}
-use lib.Seq.{length-take-le, get_or-drop, drop-drop, drop-append_seam}
-use lib.Dec.{eqb}
-use borrow.Author.Tests.{lt-ltb, eq-eqb}
+use Rattle.std.proofs.Math.Seq.{drop-append_seam}
 use Rattle.text.specs.Reading.{lost, byte_at, place_after, word, only, digit_of, numeral, number_at, hex_of, pair_at, field_at}
 use Rattle.logic.specs.Quoted.{bytes}
 use Rattle.text.specs.declared.Number.{Number}

@@ -1,17 +1,11 @@
 -- Reading a written number: its first digit, one reading for each further digit, and readings that find no digit and change nothing.
 -- Assumes nothing.
-use mathlib.Core.Path.{◌≡◌, refl, ap, sym, ◌∙◌}
-use mathlib.Core.Logic.{dite}
-use mathlib.Core.Bool.{Bool, true, false, cond}
-use mathlib.Core.List.{List, [], ◌∷◌, ◌++◌, append_assoc}
-use Prim.Native.Nat.{ℕ, zero, suc, ◌+◌, ◌-◌, ◌*◌, ◌/◌, ◌%◌, ◌^◌, ◌<◌, ◌≤◌}
-use native.Mathlib.Nat.{not-suc-le-zero, pow-suc, add-zero, zero-add, suc-add}
-use native.Mathlib.Decide.{dec_lt}
-use native.Mathlib.Omega.{arith}
-use lib.ListN.{length, get_or, length-append}
-use lib.Seq.{get_or_at, get_or-append-add, append_snoc}
-use lib.Dec.{eqb, ltb}
-use borrow.Author.Tests.{lt-ltb, le-ltb, ne_eqb}
+use Rattle.std.proofs.Common.{◌≡◌, refl, ap, sym, ◌∙◌, Bool, true, false, cond, List, [], ◌∷◌, ◌++◌, append_assoc, ℕ, zero, suc, ◌+◌, ◌-◌, ◌*◌, ◌/◌, ◌%◌, ◌^◌}
+use Rattle.std.proofs.Common.{◌<◌, ◌≤◌, not-suc-le-zero, pow-suc, add-zero, zero-add, suc-add, arith, length, get_or, length-append, get_or-append-add, eqb}
+use Rattle.std.proofs.Common.{ltb, lt-ltb, le-ltb, ne_eqb}
+use Rattle.std.proofs.Math.Logic.{dite}
+use Rattle.std.proofs.Math.Decide.{dec_lt}
+use Rattle.std.proofs.Math.Seq.{get_or_at, append_snoc}
 use Rattle.text.specs.declared.Number.{Number}
 use Rattle.text.specs.Reading.{byte_at, place_after, digit_of, numeral, first_digit, next_digit}
 use Rattle.page.specs.Page.{digits, decimal}

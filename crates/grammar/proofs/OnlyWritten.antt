@@ -1,16 +1,9 @@
 -- A text without a bad line is the text of a schedule: line by line, what was read is an item, and stands as it is written.
 -- Assumes nothing.
-use Prim.{tt}
-use mathlib.Core.Path.{◌≡◌, refl, ap, sym, subst, ◌∙◌}
-use mathlib.Core.Logic.{◌≢◌, ◌⊎◌, inl, inr}
-use mathlib.Core.Bool.{Bool, true, false, cond, ◌&&◌, ◌||◌, true≢false}
-use mathlib.Core.List.{List, [], ◌∷◌, ◌++◌, append-nil}
-use Prim.Native.Nat.{ℕ, zero, suc, ◌+◌, ◌<◌, ◌≤◌}
-use native.Mathlib.Omega.{arith}
-use lib.ListN.{length}
-use lib.Seq.{drop-length}
-use lib.Dec.{eqb, leb}
-use borrow.Author.Tests.{leb-true, eqb-true, eqb-false}
+use Rattle.std.proofs.Common.{◌≡◌, refl, ap, sym, subst, ◌∙◌, ◌≢◌, ◌⊎◌, inl, inr, Bool, true, false, cond, ◌&&◌, ◌||◌, true≢false, List, [], ◌∷◌, ◌++◌}
+use Rattle.std.proofs.Common.{append-nil, ℕ, zero, suc, ◌+◌, ◌<◌, ◌≤◌, arith, length, eqb, leb, leb-true, eqb-true}
+use Rattle.std.proofs.Math.Seq.{drop-length}
+use borrow.Author.Tests.{eqb-false}
 use Rattle.text.specs.Reading.{lost, word, number_at, field_at}
 use Rattle.logic.specs.Quoted.{bytes}
 use Rattle.logic.proofs.Cases.{on_cond}

@@ -1,20 +1,11 @@
 -- A reading that is not lost has read what stands in the text: words, numbers as `decimal` writes them, hex digits.
 -- Assumes nothing.
-use Prim.{tt}
-use mathlib.Core.Path.{◌≡◌, refl, ap, sym, subst, ◌∙◌}
-use mathlib.Core.Logic.{◌≢◌}
-use mathlib.Core.Bool.{Bool, true, false, cond}
-use mathlib.Core.List.{List, [], ◌∷◌, ◌++◌, append_assoc}
-use Prim.Native.Nat.{ℕ, zero, suc, ◌+◌, ◌-◌, ◌*◌, ◌/◌, ◌%◌, ◌^◌, ◌<◌, ◌≤◌}
+use Rattle.std.proofs.Common.{◌≡◌, refl, ap, sym, subst, ◌∙◌, ◌≢◌, Bool, true, false, cond, List, [], ◌∷◌, ◌++◌, append_assoc, ℕ, zero, suc, ◌+◌, ◌-◌, ◌*◌}
+use Rattle.std.proofs.Common.{◌/◌, ◌%◌, ◌^◌, ◌<◌, ◌≤◌, pow-suc, add-one, arith, length, drop, drop-cons, eqb, ltb, ltb-true, ltb-false, lt-ltb, eqb-true}
 use Prim.Native.String.{String}
-use native.Mathlib.Nat.{pow-suc}
-use native.Mathlib.Numerals.{add-one}
-use native.Mathlib.Omega.{arith}
-use lib.ListN.{length, drop}
-use lib.Seq.{drop-cons}
-use lib.Dec.{eqb, ltb}
-use borrow.Author.Tests.{ltb-true, ltb-false, lt-ltb, eqb-true, eqb-false}
-use Rattle.text.specs.Reading.{lost, byte_at, place_after, word, only, digit_of, numeral, first_digit, next_digit, number_at, hex_of, no_pair, pair_at, field_at}
+use borrow.Author.Tests.{eqb-false}
+use Rattle.text.specs.Reading.{lost, byte_at, place_after, word, only, digit_of, numeral, first_digit, next_digit, number_at, hex_of, no_pair, pair_at}
+use Rattle.text.specs.Reading.{field_at}
 use Rattle.logic.specs.Quoted.{bytes}
 use Rattle.logic.proofs.Cases.{on_cond}
 use Rattle.text.specs.declared.Number.{Number}

@@ -1,14 +1,8 @@
 -- Writing on, and the digits of a number.
 -- Assumes nothing.
-use mathlib.Core.Path.{sym, ◌≡◌, refl, ap, ◌∙◌}
-use mathlib.Core.List.{List, [], ◌∷◌, ◌++◌}
-use Prim.Native.Nat.{ℕ, zero, suc, ◌+◌, ◌-◌, ◌/◌, ◌%◌, ◌<◌, ◌≤◌}
-use native.Mathlib.Nat.{not-suc-le-zero}
-use native.Mathlib.Numerals.{sub-one, add-one}
-use native.Mathlib.Omega.{arith}
-use lib.ListN.{length, get_or, drop}
-use lib.Seq.{drop-cons, drop-length}
-use borrow.Author.Tests.{lt-ltb, le-ltb}
+use Rattle.std.proofs.Common.{sym, ◌≡◌, refl, ap, ◌∙◌, List, [], ◌∷◌, ◌++◌, ℕ, zero, suc, ◌+◌, ◌-◌, ◌/◌, ◌%◌, ◌<◌, ◌≤◌, not-suc-le-zero, sub-one, add-one}
+use Rattle.std.proofs.Common.{arith, length, get_or, drop, drop-cons, lt-ltb, le-ltb}
+use Rattle.std.proofs.Math.Seq.{drop-length}
 use Rattle.page.specs.Page.{Page, put_byte, put, Wrote, digits}
 
 -- two texts one after the other are one text

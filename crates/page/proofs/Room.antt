@@ -1,16 +1,8 @@
 -- What a buffer holds once bytes were put into it, and how many digits a number has.
 -- Assumes nothing.
-use mathlib.Core.Path.{◌≡◌, refl, ap, ◌∙◌}
-use mathlib.Core.Bool.{Bool, true, false, cond}
-use mathlib.Core.List.{List, [], ◌∷◌, ◌++◌}
-use Prim.Native.Nat.{ℕ, zero, suc, ◌+◌, ◌/◌, ◌%◌, ◌^◌, ◌<◌, ◌≤◌}
-use native.Mathlib.Nat.{suc-add, pow-suc}
-use native.Mathlib.Numerals.{add-one}
-use native.Mathlib.Omega.{arith}
-use lib.ListN.{length, take, set, length-set, length-append}
-use lib.Seq.{sets, sets-eq, take-set-le}
-use lib.Dec.{ltb}
-use borrow.Author.Tests.{lt-ltb}
+use Rattle.std.proofs.Common.{◌≡◌, refl, ap, ◌∙◌, Bool, true, false, cond, List, [], ◌∷◌, ◌++◌, ℕ, zero, suc, ◌+◌, ◌/◌, ◌%◌, ◌^◌, ◌<◌, ◌≤◌, suc-add, pow-suc}
+use Rattle.std.proofs.Common.{add-one, arith, length, take, set, length-set, length-append, ltb, lt-ltb}
+use Rattle.std.proofs.Math.Seq.{sets, sets-eq, take-set-le}
 use Rattle.logic.proofs.Cases.{on_cond}
 use Rattle.page.specs.Page.{Page, page, put_byte, put, digits}
 use Rattle.page.specs.Claims.{Room, KeepsBefore, DigitsAreFew, DecimalIsWhole}

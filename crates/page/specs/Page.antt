@@ -1,6 +1,6 @@
 -- Bytes written one after another into a buffer, and numbers in decimal.
 use Rattle.std.specs.Prelude.{◌≡◌, List, [], ◌∷◌, ◌++◌, cond, ℕ, zero, suc, ◌+◌, ◌/◌, ◌%◌, length, set, ltb}
-use Rattle.std.specs.Borrow.{Bor}
+use Rattle.std.specs.Borrow.{MutBor}
 use denote.Triple.Both.{Both}
 
 -- a buffer, and the place of the next byte
@@ -28,7 +28,7 @@ pub record Wrote (before : Page) (bytes : List ℕ) (after : Page) : Type 0 wher
 
 -- a lent buffer, as it came and as it is left
 abbrev pub Buffer : Type 0
-Buffer = Both (Bor (List ℕ)) (Bor (List ℕ))
+Buffer = Both (MutBor (List ℕ)) (MutBor (List ℕ))
 
 -- from this place on these bytes are put into the buffer, and the next byte goes to the last place
 abbrev pub Puts : Buffer → (to : ℕ) → (bytes : List ℕ) → (next : ℕ) → Type 0

@@ -1,10 +1,12 @@
 // Writing bytes and decimal numbers one after another into a lent buffer.
 // A full buffer takes no more, and nothing past it is touched.
 #![tactic(auto)]
+
 ghost use Rattle.std.specs.Prelude.{[], ◌∷◌};
 ghost use Rattle.page.specs.Page.{Puts, digits, decimal};
 
 // One byte, if there is room; the answer is the place of the next.
+#[tactic(auto, unfolding(crate::specs::Page::put))]
 pub fn put_byte(out: &mut [u8], at: usize, byte: u8) -> usize
     ensures { Puts out at (byte ∷ []) result }
 {

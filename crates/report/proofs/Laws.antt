@@ -1,11 +1,6 @@
 -- The keys from a place on, as the loop over them writes them.
 -- Assumes nothing.
-use mathlib.Core.Path.{◌≡◌}
-use mathlib.Core.List.{List, [], ◌++◌}
-use Prim.Native.Nat.{ℕ, ◌+◌, ◌<◌, ◌≤◌}
-use native.Mathlib.Numerals.{add-one}
-use lib.ListN.{length, get_or, drop, drop_of_length-le}
-use lib.Seq.{drop-cons}
+use Rattle.std.proofs.Common.{◌≡◌, List, [], ◌++◌, ℕ, ◌+◌, ◌<◌, ◌≤◌, add-one, length, get_or, drop, drop_of_length-le, drop-cons}
 use Rattle.report.specs.Lines.{key_line, key_lines}
 
 pub keys_on : (keys : List ℕ) (i : ℕ) → i < length keys → key_lines (drop i keys) ≡ key_line (get_or keys i 0) ++ key_lines (drop (i + 1) keys)

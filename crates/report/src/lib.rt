@@ -1,5 +1,6 @@
 // The lines of a schedule's output: answers and refusals, then keys and tallies; or the bad line.
 #![tactic(auto)]
+
 ghost use Rattle.std.specs.Prelude.{◌≡◌};
 ghost use Rattle.calls.specs.Calls.{name_of};
 ghost use Rattle.calls.specs.Words.{word_of, reply_is};

@@ -1,12 +1,6 @@
 -- The body and its first bad line, line by line.
 -- Assumes nothing.
-use mathlib.Core.Path.{◌≡◌, refl, ap, sym, ◌∙◌}
-use mathlib.Core.Bool.{true, false}
-use mathlib.Core.List.{List, [], ◌∷◌}
-use Prim.Native.Nat.{ℕ, zero, suc, ◌+◌, ◌-◌, ◌<◌}
-use native.Mathlib.Nat.{not-suc-le-zero}
-use native.Mathlib.Numerals.{sub-one}
-use lib.ListN.{length}
+use Rattle.std.proofs.Common.{◌≡◌, refl, ap, sym, ◌∙◌, true, false, List, [], ◌∷◌, ℕ, zero, suc, ◌+◌, ◌-◌, ◌<◌, not-suc-le-zero, sub-one, length}
 use Rattle.script.specs.Lines.{line_at, ends_body, next_of}
 use Rattle.script.specs.Body.{body_from, last_bad, bad_from}
 use Rattle.script.specs.declared.Line.{Line}

@@ -1,14 +1,8 @@
 -- The fuel that the two readings of a body are allowed is enough, and a good head sets what a list can be set up with.
 -- Assumes nothing.
-use mathlib.Core.Path.{◌≡◌, refl, ap}
-use mathlib.Core.Bool.{Bool, true, false, cond, ◌&&◌, ◌||◌}
-use mathlib.Core.List.{List, ◌∷◌}
-use Prim.Native.Nat.{ℕ, zero, suc, ◌+◌, ◌*◌, ◌<◌, ◌≤◌}
-use native.Mathlib.Nat.{suc-add}
-use native.Mathlib.Omega.{arith}
-use lib.ListN.{length}
-use lib.Dec.{eqb, leb}
-use borrow.Author.Tests.{leb-true, eqb-false}
+use Rattle.std.proofs.Common.{◌≡◌, refl, ap, Bool, true, false, cond, ◌&&◌, ◌||◌, List, ◌∷◌, ℕ, zero, suc, ◌+◌, ◌*◌, ◌<◌, ◌≤◌, suc-add, arith, length, eqb}
+use Rattle.std.proofs.Common.{leb, leb-true}
+use borrow.Author.Tests.{eqb-false}
 use Rattle.text.specs.Reading.{lost, word, only, numeral, number_at}
 use Rattle.logic.specs.Quoted.{bytes}
 use Rattle.logic.proofs.Cases.{cond_same}

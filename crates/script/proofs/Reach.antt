@@ -1,14 +1,8 @@
 -- Every reading of a text leads on: to `lost`, or to a place behind its own that is still within the text.
 -- Assumes nothing.
-use mathlib.Core.Path.{◌≡◌, refl, ap, ◌∙◌}
-use mathlib.Core.Logic.{◌⊎◌, inl, inr, ⊎_elim}
-use mathlib.Core.Bool.{Bool, true, false, cond, ◌&&◌, ◌||◌, true≢false}
-use mathlib.Core.List.{List, [], ◌∷◌}
-use Prim.Native.Nat.{ℕ, ◌+◌, ◌<◌, ◌≤◌}
-use native.Mathlib.Omega.{arith}
-use lib.ListN.{length}
-use lib.Dec.{eqb, ltb, leb}
-use borrow.Author.Tests.{ltb-true, le-ltb, eqb-false}
+use Rattle.std.proofs.Common.{◌≡◌, refl, ap, ◌∙◌, ◌⊎◌, inl, inr, ⊎_elim, Bool, true, false, cond, ◌&&◌, ◌||◌, true≢false, List, [], ◌∷◌, ℕ, ◌+◌, ◌<◌, ◌≤◌}
+use Rattle.std.proofs.Common.{arith, length, eqb, ltb, leb, ltb-true, le-ltb}
+use borrow.Author.Tests.{eqb-false}
 use Rattle.text.specs.Reading.{lost, byte_at, place_after, word, only, digit_of, first_digit, next_digit, number_at, hex_of, no_pair, pair_at, field_at}
 use Rattle.logic.specs.Quoted.{bytes}
 use Rattle.text.specs.declared.Number.{Number}

@@ -1,6 +1,7 @@
 // The lines of a schedule: one line at a place, the head, and the first line that breaks the rules.
 // Nothing here knows what a list is.
 #![tactic(auto)]
+
 ghost use Rattle.std.specs.Prelude.{◌≡◌, ◌<◌};
 ghost use Rattle.script.specs.Lines.{verb_at, call_line, step_line, end_line, line_at, ends_body, next_of};
 ghost use Rattle.script.specs.Head.{parties_line, rows_of, nodes_line, order_line, first_lost, head_of};
@@ -16,7 +17,7 @@ struct Verb {
 }
 
 // A line `call=`: the party, the code of the call, the field's bytes as they stand, and the place of the next line.
-#[derive(Drop)]
+#[derive(Clone, Copy)]
 pub struct CallLine {
     pub party: u32,
     pub code: u32,
@@ -28,7 +29,7 @@ pub struct CallLine {
 }
 
 // A line behind the head. Every kind but the last ends with the place of the next line.
-#[derive(Drop)]
+#[derive(Clone, Copy)]
 pub enum Line {
     Call(CallLine),
     // The party.
@@ -40,7 +41,7 @@ pub enum Line {
 }
 
 // The first three lines: what they set, the place behind them, and the number of the first that breaks the rules, or 0.
-#[derive(Drop)]
+#[derive(Clone, Copy)]
 pub struct Head {
     pub parties: u32,
     pub nodes: u32,
@@ -50,6 +51,7 @@ pub struct Head {
 }
 
 // The call that is named here, with a space on both sides.
+#[tactic(auto, unfolding(crate::specs::Lines::verb_at))]
 fn verb_at(text: &[u8], at: usize) -> Verb
     ensures { result ≡ verb_at text.now at }
 {
@@ -71,6 +73,7 @@ fn verb_at(text: &[u8], at: usize) -> Verb
 }
 
 // call=P add HHHHHHHH
+#[tactic(auto, unfolding(crate::specs::Lines::call_line))]
 fn call_line(text: &[u8], at: usize) -> CallLine
     ensures { result ≡ call_line text.now at }
 {
@@ -90,6 +93,7 @@ fn call_line(text: &[u8], at: usize) -> CallLine
 }
 
 // step=P
+#[tactic(auto, unfolding(crate::specs::Lines::step_line))]
 fn step_line(text: &[u8], at: usize) -> Number
     ensures { result ≡ step_line text.now at }
 {
@@ -101,6 +105,7 @@ fn step_line(text: &[u8], at: usize) -> Number
 }
 
 // end= and a number
+#[tactic(auto, unfolding(crate::specs::Lines::end_line))]
 fn end_line(text: &[u8], at: usize) -> Number
     ensures { result ≡ end_line text.now at }
 {
@@ -112,6 +117,7 @@ fn end_line(text: &[u8], at: usize) -> Number
 }
 
 // The line that stands at a place behind the head.
+#[tactic(auto, unfolding(crate::specs::Lines::line_at))]
 pub fn line_at(text: &[u8], at: usize) -> Line
     ensures { result ≡ line_at text.now at }
 {
@@ -155,6 +161,7 @@ pub fn next_of(line: Line) -> usize
 }
 
 // parties=, 1 to 16
+#[tactic(auto, unfolding(crate::specs::Head::parties_line))]
 fn parties_line(text: &[u8]) -> Number
     ensures { result ≡ parties_line text.now }
 {
@@ -167,6 +174,7 @@ fn parties_line(text: &[u8]) -> Number
 }
 
 // 0 stands for 64 rows.
+#[tactic(auto, unfolding(crate::specs::Head::rows_of))]
 fn rows_of(v: u32) -> u32
     ensures { result ≡ rows_of v }
 {
@@ -174,6 +182,7 @@ fn rows_of(v: u32) -> u32
 }
 
 // nodes=, 0 or 4 to 4,096
+#[tactic(auto, unfolding(crate::specs::Head::nodes_line))]
 fn nodes_line(text: &[u8], at: usize) -> Number
     ensures { result ≡ nodes_line text.now at }
 {
@@ -190,6 +199,7 @@ fn nodes_line(text: &[u8], at: usize) -> Number
 }
 
 // order=, big or little
+#[tactic(auto, unfolding(crate::specs::Head::order_line))]
 fn order_line(text: &[u8], at: usize) -> Number
     ensures { result ≡ order_line text.now at }
 {
@@ -207,6 +217,7 @@ fn order_line(text: &[u8], at: usize) -> Number
 }
 
 // The number of the first of the three lines that is lost, or 0.
+#[tactic(auto, unfolding(crate::specs::Head::first_lost))]
 fn first_lost(parties: usize, nodes: usize, order: usize) -> usize
     ensures { result ≡ first_lost parties nodes order }
 {
@@ -222,6 +233,7 @@ fn first_lost(parties: usize, nodes: usize, order: usize) -> usize
 }
 
 // The head of a text.
+#[tactic(auto, unfolding(crate::specs::Head::head_of))]
 pub fn read_head(text: &[u8]) -> Head
     ensures { result ≡ head_of text.now }
 {
@@ -240,6 +252,7 @@ pub fn read_head(text: &[u8]) -> Head
 
 // The bad line that an `end=` behind so many lines leads to, or 0: itself if its number is wrong,
 // the next one if bytes follow.
+#[tactic(auto, unfolding(crate::specs::Body::end_bad))]
 fn end_bad(seen: usize, count: u32, next: usize, len: usize) -> usize
     requires { seen < 9223372036854775808 }
     ensures { result ≡ end_bad seen count next len }
@@ -254,6 +267,7 @@ fn end_bad(seen: usize, count: u32, next: usize, len: usize) -> usize
 }
 
 // The bad line that a line without call and step leads to, or 0.
+#[tactic(auto, unfolding(crate::specs::Body::last_bad))]
 fn last_bad(seen: usize, line: Line, len: usize) -> usize
     requires { seen < 9223372036854775808 }
     ensures { result ≡ last_bad seen line len }
@@ -267,6 +281,7 @@ fn last_bad(seen: usize, line: Line, len: usize) -> usize
 }
 
 // How many good lines a text can have at most.
+#[tactic(auto, unfolding(crate::specs::Body::most_lines))]
 pub fn most_lines(text: &[u8]) -> usize
     ensures { result ≡ most_lines text.now }
 {
@@ -293,6 +308,7 @@ fn body_bad(text: &[u8], from: usize) -> usize
 }
 
 // The number of the first bad line of a text with this head, or 0.
+#[tactic(auto, unfolding(crate::specs::Body::first_bad))]
 pub fn first_bad(text: &[u8], head: Head) -> usize
     ensures { result ≡ first_bad text.now head }
 {

@@ -1,12 +1,6 @@
 -- Two hex digits make a byte.
 -- Assumes nothing.
-use mathlib.Core.Path.{◌≡◌, refl}
-use mathlib.Core.Bool.{Bool, true, false, cond}
-use mathlib.Core.List.{List}
-use Prim.Native.Nat.{ℕ, ◌+◌, ◌*◌, ◌<◌}
-use native.Mathlib.Omega.{arith}
-use lib.Dec.{ltb}
-use borrow.Author.Tests.{ltb-true}
+use Rattle.std.proofs.Common.{◌≡◌, refl, Bool, true, false, cond, List, ℕ, ◌+◌, ◌*◌, ◌<◌, arith, ltb, ltb-true}
 use Rattle.text.specs.declared.Pair.{Pair}
 use Rattle.text.specs.Reading.{byte_at, place_after, hex_of, no_pair, pair_at, field_at}
 use Rattle.text.specs.Claims.{FieldIsBytes}

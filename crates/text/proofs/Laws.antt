@@ -1,12 +1,6 @@
 -- One byte of a word: what the loop over its bytes needs.
 -- Assumes nothing.
-use mathlib.Core.Path.{◌≡◌}
-use mathlib.Core.List.{List}
-use Prim.Native.Nat.{ℕ, ◌+◌, ◌<◌, ◌≤◌}
-use native.Mathlib.Numerals.{add-one}
-use lib.ListN.{length, get_or, drop, drop_of_length-le}
-use lib.Seq.{drop-cons}
-use borrow.Author.Tests.{eq-eqb, ne_eqb}
+use Rattle.std.proofs.Common.{◌≡◌, List, ℕ, ◌+◌, ◌<◌, ◌≤◌, add-one, length, get_or, drop, drop_of_length-le, drop-cons, eq-eqb, ne_eqb}
 use Rattle.text.specs.Reading.{word, place_after, byte_at, lost}
 
 module _ (text : List ℕ) (at : ℕ) (w : List ℕ) (i : ℕ) where

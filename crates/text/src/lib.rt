@@ -1,6 +1,7 @@
 // Reading at a place of a text: words, decimal numbers, fields of eight hex digits.
 // A reading that fails goes to LOST, where every later one fails too.
 #![tactic(auto)]
+
 ghost use Rattle.std.specs.Prelude.{◌≡◌};
 ghost use Rattle.text.specs.Reading.{
   byte_at,
@@ -51,6 +52,7 @@ fn byte_at(text: &[u8], at: usize) -> u8
 }
 
 // The place behind a byte.
+#[tactic(auto, unfolding(crate::specs::Reading::place_after))]
 fn place_after(text: &[u8], at: usize) -> usize
     ensures { result ≡ place_after text.now at }
 {
@@ -81,6 +83,7 @@ pub fn word(text: &[u8], at: usize, wanted: &[u8]) -> usize
 }
 
 // What a decimal digit stands for; 10 for any other byte.
+#[tactic(auto, unfolding(crate::specs::Reading::digit_of))]
 fn digit(byte: u8) -> u8
     ensures { result ≡ digit_of byte }
 {
@@ -113,6 +116,7 @@ fn first_digit(text: &[u8], at: usize) -> Number
 
 // One digit more where one stands. No digit goes behind a 0 in front, and none behind five:
 // so no number has a leading zero, and none can wrap.
+#[tactic(auto, unfolding(crate::specs::Reading::next_digit))]
 fn next_digit(text: &[u8], n: Number) -> Number
     ensures { result ≡ next_digit text.now n }
 {
@@ -148,6 +152,7 @@ pub fn read_number(text: &[u8], at: usize) -> Number
 }
 
 // What a hex digit of either case stands for; 16 for any other byte.
+#[tactic(auto, unfolding(crate::specs::Reading::hex_of))]
 fn hex(byte: u8) -> u8
     ensures { result ≡ hex_of byte }
 {
@@ -169,6 +174,7 @@ fn hex(byte: u8) -> u8
 }
 
 // The byte of two hex digits.
+#[tactic(auto, unfolding(crate::specs::Reading::pair_at))]
 fn read_pair(text: &[u8], at: usize) -> Pair
     ensures { result ≡ pair_at text.now at }
 {
@@ -190,6 +196,7 @@ fn read_pair(text: &[u8], at: usize) -> Pair
 }
 
 // The four bytes of eight hex digits; LOST behind any other text.
+#[tactic(auto, unfolding(crate::specs::Reading::field_at))]
 pub fn read_field(text: &[u8], at: usize) -> Field
     ensures { result ≡ field_at text.now at }
 {
