@@ -21,9 +21,9 @@ use Rattle.calls.specs.Words.{Word}
 use Rattle.calls.proofs.Told.{replies_differ}
 use Rattle.list.proofs.Promises.{listed_differ}
 use Rattle.list.proofs.set_up.Reads as set_up
-use Rattle.list.proofs.call_asks.Reads as Call-asks
+use Rattle.list.proofs.call_asks.Reads as call_asks
 use Rattle.list.proofs.call.Reads as call
-use Rattle.list.proofs.move_asks.Reads as Move-asks
+use Rattle.list.proofs.move_asks.Reads as move_asks
 use Rattle.list.proofs.step.Reads as step
 use Rattle.list.proofs.listing.Reads as listing
 
@@ -77,8 +77,8 @@ listing_fixed κs given answer₁ answer₂ exit₁ exit₂ p q = listing_told _
 
 -- ---- the tests that a program on a grown list makes by itself
 
-pub call_asks_fixed : OneOutcome Call-asks.Post (λ κs answer exit. answer)
+pub call_asks_fixed : OneOutcome call_asks.Post (λ κs answer exit. answer)
 call_asks_fixed κs given answer₁ answer₂ exit₁ exit₂ p q = verdicts_differ answer₁ answer₂ (by_equation p q)
 
-pub move_asks_fixed : OneOutcome Move-asks.Post (λ κs answer exit. answer)
+pub move_asks_fixed : OneOutcome move_asks.Post (λ κs answer exit. answer)
 move_asks_fixed κs given answer₁ answer₂ exit₁ exit₂ p q = verdicts_differ answer₁ answer₂ (by_equation p q)

@@ -2,20 +2,20 @@
 -- Assumes nothing.
 use Rattle.logic.specs.Outcome.{OneOutcome}
 use Rattle.logic.proofs.Outcome.{by_equation}
-use Rattle.list_party.proofs.Place.is_idle.Reads as is-idle
+use Rattle.list_party.proofs.Place.is_idle.Reads as is_idle
 use Rattle.list_party.proofs.Place.asked.Reads as asked
 use Rattle.list_party.proofs.Party.blank.Reads as blank
 use Rattle.list_party.proofs.Party.idling.Reads as idling
 use Rattle.list_party.proofs.Party.published.Reads as published
-use Rattle.list_party.proofs.Party.goes_to.Reads as Goes-to
-use Rattle.list_party.proofs.one_taken.Reads as one-taken
+use Rattle.list_party.proofs.Party.goes_to.Reads as goes_to
+use Rattle.list_party.proofs.one_taken.Reads as one_taken
 use Rattle.list_party.proofs.State.resting.Reads as resting
-use Rattle.list_party.proofs.State.party_at.Reads as party-at
+use Rattle.list_party.proofs.State.party_at.Reads as party_at
 use Rattle.list_party.proofs.State.with_party.Reads as with_party
-use Rattle.list_party.proofs.State.with_taken.Reads as with-taken
+use Rattle.list_party.proofs.State.with_taken.Reads as with_taken
 use Rattle.list_party.proofs.State.tallied.Reads as tallied
 
-pub is_idle_fixed : OneOutcome is-idle.Post (λ κs answer exit. answer)
+pub is_idle_fixed : OneOutcome is_idle.Post (λ κs answer exit. answer)
 is_idle_fixed κs given answer₁ answer₂ exit₁ exit₂ = by_equation
 
 pub asked_fixed : OneOutcome asked.Post (λ κs answer exit. answer)
@@ -30,22 +30,22 @@ idling_fixed κs given answer₁ answer₂ exit₁ exit₂ = by_equation
 pub published_fixed : OneOutcome published.Post (λ κs answer exit. answer)
 published_fixed κs given answer₁ answer₂ exit₁ exit₂ = by_equation
 
-pub goes_to_fixed : OneOutcome Goes-to.Post (λ κs answer exit. answer)
+pub goes_to_fixed : OneOutcome goes_to.Post (λ κs answer exit. answer)
 goes_to_fixed κs given answer₁ answer₂ exit₁ exit₂ = by_equation
 
-pub one_taken_fixed : OneOutcome one-taken.Post (λ κs answer exit. answer)
+pub one_taken_fixed : OneOutcome one_taken.Post (λ κs answer exit. answer)
 one_taken_fixed κs given answer₁ answer₂ exit₁ exit₂ = by_equation
 
 pub resting_fixed : OneOutcome resting.Post (λ κs answer exit. answer)
 resting_fixed κs given answer₁ answer₂ exit₁ exit₂ = by_equation
 
-pub party_at_fixed : OneOutcome party-at.Post (λ κs answer exit. answer)
+pub party_at_fixed : OneOutcome party_at.Post (λ κs answer exit. answer)
 party_at_fixed κs given answer₁ answer₂ exit₁ exit₂ = by_equation
 
 pub with_party_fixed : OneOutcome with_party.Post (λ κs answer exit. answer)
 with_party_fixed κs given answer₁ answer₂ exit₁ exit₂ = by_equation
 
-pub with_taken_fixed : OneOutcome with-taken.Post (λ κs answer exit. answer)
+pub with_taken_fixed : OneOutcome with_taken.Post (λ κs answer exit. answer)
 with_taken_fixed κs given answer₁ answer₂ exit₁ exit₂ = by_equation
 
 pub tallied_fixed : OneOutcome tallied.Post (λ κs answer exit. answer)

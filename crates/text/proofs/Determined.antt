@@ -5,7 +5,7 @@ use Rattle.logic.proofs.Outcome.{by_equation}
 use Rattle.text.proofs.only.Reads as only
 use Rattle.text.proofs.word.Reads as word
 use Rattle.text.proofs.read_number.Reads as read_number
-use Rattle.text.proofs.read_field.Reads as read-field
+use Rattle.text.proofs.read_field.Reads as read_field
 
 pub only_fixed : OneOutcome only.Post (λ κs answer exit. answer)
 only_fixed κs given answer₁ answer₂ exit₁ exit₂ = by_equation
@@ -16,5 +16,5 @@ word_fixed κs given answer₁ answer₂ exit₁ exit₂ = by_equation
 pub read_number_fixed : OneOutcome read_number.Post (λ κs answer exit. answer)
 read_number_fixed κs given answer₁ answer₂ exit₁ exit₂ = by_equation
 
-pub read_field_fixed : OneOutcome read-field.Post (λ κs answer exit. answer)
+pub read_field_fixed : OneOutcome read_field.Post (λ κs answer exit. answer)
 read_field_fixed κs given answer₁ answer₂ exit₁ exit₂ = by_equation
