@@ -9,8 +9,6 @@ use lib.ListN.{length, length-replicate}
 use lib.Dec.{eqb, ltb}
 use borrow.Author.Tests.{lt-ltb, le-ltb, ltb-false, eq-eqb, eqb-true, ne_eqb, le-leb}
 use Rattle.refusal.specs.Answer.{passed}
-use Rattle.columns.specs.Column.{zeros}
-use Rattle.list_rows.specs.Table.{tab}
 use Rattle.list.specs.Engine.{set_up_of}
 use Rattle.list.specs.Run.{run, unset, fresh}
 use Rattle.list_grown.specs.History.{keys_are_32}

@@ -1,5 +1,6 @@
 // A whole schedule: its text goes in, and its whole output is left in a lent buffer.
 #![tactic(auto)]
+
 ghost use Rattle.std.specs.Prelude.{◌≡◌, ◌≤◌};
 ghost use Rattle.page.specs.Page.{Puts};
 ghost use Rattle.list_rows.specs.Table.{before, before_mut, after};
