@@ -14,7 +14,7 @@ use borrow.Author.Tests.{leb-true, eqb-true}
 use Rattle.logic.proofs.Tests.{and_left, and_right}
 use Rattle.field.specs.Layout.{number_in, bytes_in, Bytes}
 use Rattle.field.specs.Field.{field_at}
-use Rattle.calls.specs.Calls.{call_named, code_of}
+use Rattle.calls.specs.Calls.{call_named}
 use Rattle.calls.proofs.Told.{code_of_its_call}
 use Rattle.probe_layout.specs.Bytes.{byte_at, two_at, four_at, each, low, one_by_one}
 use Rattle.probe_layout.specs.Records.{place_numbered, place_bytes, record_at, record_fits, record_bytes}

@@ -1,5 +1,6 @@
 // A question in bytes: what is asked, a table and a state, read and written back; and which bytes fit the layout.
 #![tactic(auto)]
+
 mod read;
 mod write;
 

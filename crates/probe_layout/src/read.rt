@@ -73,6 +73,7 @@ fn record_at(bytes: &[u8], at: usize) -> Party
 }
 
 // Whether the twenty bytes from a place on are a party record.
+#[tactic(auto, unfolding(crate::specs::Records::record_fits))]
 fn record_fits(bytes: &[u8], at: usize) -> bool
     requires { at < 65536 }
     ensures { result ≡ record_fits bytes.now at }
@@ -213,6 +214,7 @@ fn end_of(bytes: &[u8]) -> usize
 }
 
 // Whether the bytes fit the layout.
+#[tactic(auto, unfolding(crate::specs::Layout::fits))]
 pub fn fits(bytes: &[u8]) -> bool
     ensures { result ≡ fits bytes.now }
 {
