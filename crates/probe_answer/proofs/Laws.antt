@@ -8,10 +8,7 @@ use Prim.Native.Nat.{ℕ, zero, suc, ◌≤◌}
 use native.Mathlib.Nat.{not-suc-le-zero, le_of_suc-le-suc}
 use native.Mathlib.Omega.{arith}
 use lib.ListN.{length, take, replicate, length-replicate}
-use Rattle.refusal.specs.declared.Refusal.{Refusal}
-use Rattle.refusal.specs.declared.Verdict.TheVariants.{Accepted, Refused}
-use Rattle.refusal.specs.Number.{number_of}
-use Rattle.refusal.specs.Answer.{accepted, refused, Left, left, Tests, verdict_is}
+use Rattle.refusal.specs.Answer.{Left, left, verdict_is}
 use Rattle.list_rows.specs.Table.{Table, tab}
 use Rattle.list_party.specs.declared.State.{State}
 use Rattle.list_unchecked.specs.Unchecked.{Machine, machine}

@@ -1,6 +1,6 @@
 -- How long an output can be.
 -- Assumes nothing.
-use mathlib.Core.Path.{◌≡◌, refl, ap, sym, ◌∙◌}
+use mathlib.Core.Path.{◌≡◌, refl, sym, ◌∙◌}
 use mathlib.Core.Bool.{Bool, true, false, not}
 use mathlib.Core.List.{List}
 use Prim.Native.Nat.{ℕ, zero, suc, ◌+◌, ◌*◌, ◌≤◌}
@@ -14,10 +14,8 @@ use Rattle.list_rows.specs.declared.Write.{Write}
 use Rattle.list_rows.specs.declared.Write.TheVariants.{Untouched, Link, Splice, Item}
 use Rattle.list_rows.specs.Table.{Table}
 use Rattle.list_rows.specs.Writes.{written}
-use Rattle.calls.specs.declared.Access.{Access}
-use Rattle.calls.specs.declared.Access.TheVariants.{None, Read, Won, Lost}
 use Rattle.list_party.specs.declared.State.{State}
-use Rattle.list_party.specs.State.{tallied, resting_state}
+use Rattle.list_party.specs.State.{resting_state}
 use Rattle.list_moves.specs.Moves.{move_at}
 use Rattle.list_unchecked.specs.Unchecked.{Machine, machine, party_of, begun_of, unchecked_call, unchecked_move}
 use Rattle.list_form.specs.Form.{rows_in}

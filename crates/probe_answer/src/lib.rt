@@ -1,5 +1,6 @@
 // The probe: one checked set-up, call, move or listing on any state, bytes in and bytes out.
 #![tactic(auto)]
+
 ghost use Rattle.std.specs.Prelude.{◌≡◌, true};
 ghost use Rattle.refusal.specs.Answer.{left, verdict_is};
 ghost use Rattle.list_rows.specs.Table.{tab, before, before_mut, after};
