@@ -1,5 +1,6 @@
 // The pace program: replays one schedule many times, so that a replay can be timed, and writes the output of the last.
 #![tactic(auto)]
+
 ghost use Rattle.std.specs.Prelude.{◌≡◌, length};
 ghost use Rattle.std.specs.Io.{ReadsAtMost};
 

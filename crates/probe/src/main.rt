@@ -1,5 +1,6 @@
 // The probe program: reads a question on standard input and writes all that came of it to standard output.
 #![tactic(auto)]
+
 ghost use Rattle.std.specs.Prelude.{◌≡◌, length};
 ghost use Rattle.std.specs.Io.{ReadsAtMost};
 

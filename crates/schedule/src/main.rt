@@ -1,5 +1,6 @@
 // The schedule program: reads a schedule on standard input and writes what came of it to standard output.
 #![tactic(auto)]
+
 ghost use Rattle.std.specs.Prelude.{◌≡◌, length};
 ghost use Rattle.std.specs.Io.{ReadsAtMost};
 

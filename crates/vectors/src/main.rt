@@ -1,8 +1,8 @@
 // The stored schedules: runs each through `replay`, holds its whole output to the stored one byte for byte,
 // and prints a line a group and a total.
 #![tactic(auto)]
-ghost use Rattle.std.specs.Prelude.{◌≡◌, length, ◌≤◌};
-ghost use Rattle.io.specs.Counts.{IsPrefixLen};
+
+ghost use Rattle.std.specs.Prelude.{◌≡◌, length, take, ◌≤◌};
 ghost use Rattle.std.specs.Io.{ReadsAtMost};
 
 use list_replay::replay;
@@ -64,7 +64,8 @@ fn large_buffer() -> [u8; 65536]
 
 // A place, or the buffer's length where it lies past that: `&buf[..n]` then asks nothing of who gave the place.
 fn within(n: usize, buf: &[u8]) -> usize
-    ensures { IsPrefixLen result buf.now }
+    ensures in_bounds { result ≤ length buf.now }
+    ensures whole { result ≡ length (take result buf.now) }
 {
     if n <= buf.len() {
         return n;
