@@ -94,7 +94,7 @@ fn emit(rt: &impl Print, line: &[u8], n: usize) -> io::Result<()> {
     rt.write_all(&line[..n])
 }
 
-// Opens the file that the first n bytes name.
+// Opens the file that the first n bytes name. Bytes that are no UTF-8 name none.
 fn open<R: Files>(rt: &R, path: &[u8], n: usize) -> io::Result<R::File> {
     let n = within(n, path);
     match str::from_utf8(&path[..n]) {
