@@ -14,12 +14,13 @@ class Missing(Exception):
 
 
 def program_file(name):
-    return os.path.join(ROOT, 'target', 'bin', name)
+    return os.path.join(ROOT, 'crates', name, 'out', name)
 
 
 def sources():
     yield os.path.join(ROOT, 'crates.txt')
-    for folder, _, files in os.walk(os.path.join(ROOT, 'crates')):
+    for folder, below, files in os.walk(os.path.join(ROOT, 'crates')):
+        below[:] = [name for name in below if name != 'out']  # what rt makes is no source
         for file in files:
             if file == 'crates.txt' or file.endswith(('.rt', '.antt')):
                 yield os.path.join(folder, file)
@@ -36,41 +37,31 @@ def stale(name):
 
 def build(name):
     program = program_file(name)
-    print('building %s (rt check %s): a few minutes the first time, since it is proved on the way ...' % (name, name),
+    print('building %s (rt run in crates/%s): a few minutes the first time, since it is proved on the way ...' % (name, name),
           file=sys.stderr, flush=True)
-    stamp = os.path.join(ROOT, 'target', 'stamp', name)
-    # without this rt would take the program for built where it proved it once and the file is gone
-    if not os.path.isfile(program) and os.path.exists(stamp):
-        os.remove(stamp)
-    checked = subprocess.run(['rt', 'check', name], cwd=ROOT, stdin=subprocess.DEVNULL,
-                             stdout=subprocess.PIPE, stderr=subprocess.STDOUT, text=True)
-    if checked.returncode:
-        raise Missing('rt check %s failed, and ended so:\n%s' % (name, '\n'.join(checked.stdout.splitlines()[-20:])))
+    # rt runs what it built, here on an empty input
+    ran = subprocess.run(['rt', 'run'], cwd=os.path.join(ROOT, 'crates', name), stdin=subprocess.DEVNULL,
+                         stdout=subprocess.DEVNULL, stderr=subprocess.PIPE, text=True)
+    if ran.returncode:
+        raise Missing('rt run in crates/%s failed, and ended so:\n%s' % (name, '\n'.join(ran.stderr.splitlines()[-20:])))
     if not os.path.isfile(program):
-        raise Missing('rt check %s passed and left no target/bin/%s' % (name, name))
+        raise Missing('rt run passed and left no crates/%s/out/%s' % (name, name))
     os.utime(program)
 
 
 def command(name):
-    """The words that start the program: as rt does, under the toolchain's loader, and its emulator where it has one."""
+    """The words that start the program: as rt does, by itself, under the machine's own loader and C library."""
     program, machine = program_file(name), platform.machine()
-    rt = shutil.which('rt')
-    if not rt:
-        if not os.path.isfile(program) or machine != 'x86_64':
+    if machine != 'x86_64':
+        raise Missing('%s is built for x86-64, and this machine is %s' % (name, machine))
+    if not shutil.which('rt'):
+        if not os.path.isfile(program):
             raise Missing('%s needs rt, which is not on the PATH' % name)
         if stale(name):
             print('the sources are newer than %s, and rt, which builds it, is not on the PATH' % name, file=sys.stderr)
-        return [program]
-    if stale(name):
+    elif stale(name):
         build(name)
-    home = os.environ.get('RATTLE_HOME') or os.path.dirname(os.path.dirname(os.path.realpath(rt)))
-    tools = os.path.join(home, 'on', machine, 'toolchain')
-    loader = os.path.join(tools, 'lib', 'ld-linux-x86-64.so.2')
-    if not os.path.isfile(loader):
-        raise Missing("the toolchain of '%s' has no loader for this machine (%s)" % (rt, machine))
-    started = [loader, '--library-path', os.path.join(tools, 'lib'), program]
-    emulator = os.path.join(tools, 'bin', 'qemu-x86_64')
-    return [emulator] + started if os.access(emulator, os.X_OK) else started
+    return [program]
 
 
 class Ran:

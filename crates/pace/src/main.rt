@@ -1,9 +1,12 @@
 // The pace program: replays one schedule many times, so that a replay can be timed, and writes the output of the last.
 #![tactic(auto)]
-ghost use Rattle.std.specs.Prelude.{◌≡◌, length};
 
-use libc::{STDIN_FILENO, STDOUT_FILENO};
+ghost use Rattle.std.specs.Prelude.{◌≡◌, length};
+ghost use Rattle.std.specs.Io.{ReadsAtMost};
+
 use list_replay::replay;
+use std::io;
+use std::io::Read;
 
 // How often the schedule is replayed.
 const ROUNDS: u32 = 200;
@@ -33,17 +36,33 @@ fn replays(text: &[u8], out: &mut [u8]) -> usize {
     end
 }
 
-// Writes the first n bytes.
-fn emit(out: &[u8], n: usize) {
-    if n <= out.len() {
-        io::write_all(STDOUT_FILENO, &out[..n]);
+// Reads until the room is full or the input ends, and answers how many bytes came.
+fn read_full(input: &mut impl Read, room: &mut [u8]) -> io::Result<usize>
+    ensures { ReadsAtMost result room.new }
+{
+    let mut done = 0;
+    while done < room.len() {
+        let n = input.read(&mut room[done..])?;
+        if n == 0 {
+            break;
+        }
+        done += n;
     }
+    Ok(done)
 }
 
-fn main() {
+// Writes the first n bytes.
+fn emit(rt: &impl Print, out: &[u8], n: usize) -> io::Result<()> {
+    if n <= out.len() {
+        rt.write_all(&out[..n])?;
+    }
+    Ok(())
+}
+
+fn main(rt: HostRuntime) -> io::Result<()> {
     let mut text = text_room();
     let mut out = out_room();
-    let n = io::read_full(STDIN_FILENO, &mut text);
+    let n = read_full(&mut rt.stdin(), &mut text)?;
     let end = replays(&text[..n], &mut out);
-    emit(&out, end);
+    emit(&rt, &out, end)
 }

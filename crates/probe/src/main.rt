@@ -1,9 +1,12 @@
 // The probe program: reads a question on standard input and writes all that came of it to standard output.
 #![tactic(auto)]
-ghost use Rattle.std.specs.Prelude.{◌≡◌, length};
 
-use libc::{STDIN_FILENO, STDOUT_FILENO};
+ghost use Rattle.std.specs.Prelude.{◌≡◌, length};
+ghost use Rattle.std.specs.Io.{ReadsAtMost};
+
 use probe_answer::probe;
+use std::io;
+use std::io::Read;
 
 // One byte more than a question may have, so that a longer one shows without being read to its end.
 fn text_room() -> [u8; 65537]
@@ -19,17 +22,33 @@ fn out_room() -> [u8; 54952]
     [0; 54952]
 }
 
-// Writes the first n bytes.
-fn emit(out: &[u8], n: usize) {
-    if n <= out.len() {
-        io::write_all(STDOUT_FILENO, &out[..n]);
+// Reads until the room is full or the input ends, and answers how many bytes came.
+fn read_full(input: &mut impl Read, room: &mut [u8]) -> io::Result<usize>
+    ensures { ReadsAtMost result room.new }
+{
+    let mut done = 0;
+    while done < room.len() {
+        let n = input.read(&mut room[done..])?;
+        if n == 0 {
+            break;
+        }
+        done += n;
     }
+    Ok(done)
 }
 
-fn main() {
+// Writes the first n bytes.
+fn emit(rt: &impl Print, out: &[u8], n: usize) -> io::Result<()> {
+    if n <= out.len() {
+        rt.write_all(&out[..n])?;
+    }
+    Ok(())
+}
+
+fn main(rt: HostRuntime) -> io::Result<()> {
     let mut text = text_room();
     let mut out = out_room();
-    let n = io::read_full(STDIN_FILENO, &mut text);
+    let n = read_full(&mut rt.stdin(), &mut text)?;
     let end = probe(&text[..n], &mut out);
-    emit(&out, end);
+    emit(&rt, &out, end)
 }

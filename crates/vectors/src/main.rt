@@ -1,23 +1,25 @@
 // The stored schedules: runs each through `replay`, holds its whole output to the stored one byte for byte,
 // and prints a line a group and a total.
 #![tactic(auto)]
-ghost use Rattle.std.specs.Prelude.{◌≡◌, length, ◌≤◌};
-ghost use Rattle.io.specs.Counts.{IsPrefixLen};
 
-use check::same;
-use libc::STDOUT_FILENO;
+ghost use Rattle.std.specs.Prelude.{◌≡◌, length, take, ◌≤◌};
+ghost use Rattle.std.specs.Io.{ReadsAtMost};
+
 use list_replay::replay;
 use page::{put, put_number};
+use std::fs::Files;
+use std::io::Read;
+use std::{fs, io};
 
 // How many schedules were run, and how many of them gave the stored output.
-#[derive(Drop)]
+#[derive(Clone, Copy)]
 struct Tally {
     ran: u64,
     equal: u64,
 }
 
 // Where the name of the open group stands in the index, its tally, and that of all groups. An empty name is no group.
-#[derive(Drop)]
+#[derive(Clone, Copy)]
 struct Course {
     from: usize,
     to: usize,
@@ -46,9 +48,24 @@ fn out_room() -> [u8; 786433]
     [0; 786433]
 }
 
+// 4,096 zeros, which hold a path or a line.
+fn buffer() -> [u8; 4096]
+    ensures { 4096 ≡ length result }
+{
+    [0; 4096]
+}
+
+// 65,536 zeros, for the index.
+fn large_buffer() -> [u8; 65536]
+    ensures { 65536 ≡ length result }
+{
+    [0; 65536]
+}
+
 // A place, or the buffer's length where it lies past that: `&buf[..n]` then asks nothing of who gave the place.
 fn within(n: usize, buf: &[u8]) -> usize
-    ensures { IsPrefixLen result buf.now }
+    ensures in_bounds { result ≤ length buf.now }
+    ensures whole { result ≡ length (take result buf.now) }
 {
     if n <= buf.len() {
         return n;
@@ -56,16 +73,34 @@ fn within(n: usize, buf: &[u8]) -> usize
     buf.len()
 }
 
-// Writes the first n bytes.
-fn emit(line: &[u8], n: usize) {
-    let n = within(n, line);
-    io::write_all(STDOUT_FILENO, &line[..n]);
+// Reads until the room is full or the input ends, and answers how many bytes came.
+fn read_full(input: &mut impl Read, room: &mut [u8]) -> io::Result<usize>
+    ensures { ReadsAtMost result room.new }
+{
+    let mut done = 0;
+    while done < room.len() {
+        let n = input.read(&mut room[done..])?;
+        if n == 0 {
+            break;
+        }
+        done += n;
+    }
+    Ok(done)
 }
 
-// Opens the file that the first n bytes name.
-fn open(path: &[u8], n: usize) -> i32 {
+// Writes the first n bytes.
+fn emit(rt: &impl Print, line: &[u8], n: usize) -> io::Result<()> {
+    let n = within(n, line);
+    rt.write_all(&line[..n])
+}
+
+// Opens the file that the first n bytes name. Bytes that are no UTF-8 name none.
+fn open<R: Files>(rt: &R, path: &[u8], n: usize) -> io::Result<R::File> {
     let n = within(n, path);
-    os::open_read(&path[..n])
+    match str::from_utf8(&path[..n]) {
+        Ok(path) => fs::open(rt, path),
+        Err(_) => Err(io::Error::from(io::ErrorKind::InvalidInput)),
+    }
 }
 
 // A file's name: that of the schedule, and what it ends in.
@@ -75,16 +110,14 @@ fn put_path(path: &mut [u8], name: &[u8], ending: &[u8]) -> usize {
 }
 
 // Reads a file into the room, as much of it as fits.
-fn load(name: &[u8], ending: &[u8], room: &mut [u8]) -> Loaded {
-    let mut path = io::buffer();
+fn load(rt: &impl Files, name: &[u8], ending: &[u8], room: &mut [u8]) -> io::Result<Loaded> {
+    let mut path = buffer();
     let n = put_path(&mut path, name, ending);
-    let fd = open(&path, n);
-    if fd < 0 {
-        return Loaded::Missing;
-    }
-    let got = io::read_full(fd, room);
-    libc::close(fd);
-    Loaded::Bytes(got)
+    let Ok(mut file) = open(rt, &path, n) else {
+        return Ok(Loaded::Missing);
+    };
+    let got = read_full(&mut file, room)?;
+    Ok(Loaded::Bytes(got))
 }
 
 // Whether replaying the first n bytes of the text leaves the first m of the wanted ones, and no more.
@@ -93,18 +126,24 @@ fn gives(text: &[u8], n: usize, out: &mut [u8], want: &[u8], m: usize) -> bool {
     let end = replay(&text[..n], out);
     let end = within(end, out);
     let m = within(m, want);
-    same(&out[..end], &want[..m])
+    out[..end] == want[..m]
 }
 
 // Whether the schedule of this name gives its stored output. A missing file never does.
-fn agrees(name: &[u8], text: &mut [u8], out: &mut [u8], want: &mut [u8]) -> bool {
-    let Loaded::Bytes(n) = load(name, b".in", text) else {
-        return false;
+fn agrees(
+    rt: &impl Files,
+    name: &[u8],
+    text: &mut [u8],
+    out: &mut [u8],
+    want: &mut [u8],
+) -> io::Result<bool> {
+    let Loaded::Bytes(n) = load(rt, name, b".in", text)? else {
+        return Ok(false);
     };
-    let Loaded::Bytes(m) = load(name, b".out", want) else {
-        return false;
+    let Loaded::Bytes(m) = load(rt, name, b".out", want)? else {
+        return Ok(false);
     };
-    gives(text, n, out, want, m)
+    Ok(gives(text, n, out, want, m))
 }
 
 // One more; the index is far too short for the last number.
@@ -140,10 +179,10 @@ fn put_differs(line: &mut [u8], name: &[u8]) -> usize {
     put(line, at, b"\n")
 }
 
-fn say_differs(name: &[u8]) {
-    let mut line = io::buffer();
+fn say_differs(rt: &impl Print, name: &[u8]) -> io::Result<()> {
+    let mut line = buffer();
     let n = put_differs(&mut line, name);
-    emit(&line, n);
+    emit(rt, &line, n)
 }
 
 // `NAME: 3 of 4 equal`.
@@ -156,10 +195,10 @@ fn put_tally(line: &mut [u8], name: &[u8], t: Tally) -> usize {
     put(line, at, b" equal\n")
 }
 
-fn say_tally(name: &[u8], t: Tally) {
-    let mut line = io::buffer();
+fn say_tally(rt: &impl Print, name: &[u8], t: Tally) -> io::Result<()> {
+    let mut line = buffer();
     let n = put_tally(&mut line, name, t);
-    emit(&line, n);
+    emit(rt, &line, n)
 }
 
 // A group whose name stands from `from` up to `to`, with nothing run.
@@ -174,35 +213,44 @@ fn opened(from: usize, to: usize, total: Tally) -> Course {
 }
 
 // The line of the open group, if there is one.
-fn say_group(index: &[u8], c: Course) {
+fn say_group(rt: &impl Print, index: &[u8], c: Course) -> io::Result<()> {
     let from = c.from;
     let to = c.to;
     if from < to {
         if to <= index.len() {
-            say_tally(&index[from..to], c.group);
+            say_tally(rt, &index[from..to], c.group)?;
         }
     }
+    Ok(())
 }
 
 // One schedule of the open group.
-fn run_one(name: &[u8], c: Course, text: &mut [u8], out: &mut [u8], want: &mut [u8]) -> Course {
-    let equal = agrees(name, text, out, want);
+fn run_one(
+    rt: &(impl Files + Print),
+    name: &[u8],
+    c: Course,
+    text: &mut [u8],
+    out: &mut [u8],
+    want: &mut [u8],
+) -> io::Result<Course> {
+    let equal = agrees(rt, name, text, out, want)?;
     if !equal {
-        say_differs(name);
+        say_differs(rt, name)?;
     }
     let group = counted(c.group, equal);
     let total = counted(c.total, equal);
-    Course {
+    Ok(Course {
         from: c.from,
         to: c.to,
         group: group,
         total: total,
-    }
+    })
 }
 
 // The line of the index from `at` up to `end`: `[NAME]` ends the open group and opens another,
 // anything else is a schedule.
 fn run_line(
+    rt: &(impl Files + Print),
     index: &[u8],
     at: usize,
     end: usize,
@@ -210,44 +258,63 @@ fn run_line(
     text: &mut [u8],
     out: &mut [u8],
     want: &mut [u8],
-) -> Course
+) -> io::Result<Course>
     requires at_le_end { at ≤ end }
     requires end_in_bounds { end ≤ length index.now }
 {
     if at < end {
         if index[at] == b'[' {
-            say_group(index, c);
-            return opened(at + 1, end - 1, c.total);
+            say_group(rt, index, c)?;
+            return Ok(opened(at + 1, end - 1, c.total));
         }
     }
-    run_one(&index[at..end], c, text, out, want)
+    run_one(rt, &index[at..end], c, text, out, want)
+}
+
+// The first place of the byte from `at` up to n, or n where there is none.
+fn find(index: &[u8], at: usize, n: usize, byte: u8) -> usize
+    requires at_le_n { at ≤ n }
+    requires n_in_bounds { n ≤ length index.now }
+    ensures at_le_result { at ≤ result }
+    ensures result_le_n { result ≤ n }
+{
+    match index[at..n].iter().position(|b| *b == byte) {
+        Some(i) => at + i,
+        None => n,
+    }
 }
 
 // Runs every line of the first n bytes of the index.
 // An index that fills its room may be cut short, and none of it is run.
-fn run_all(index: &[u8], n: usize, text: &mut [u8], out: &mut [u8], want: &mut [u8]) -> Course {
+fn run_all(
+    rt: &(impl Files + Print),
+    index: &[u8],
+    n: usize,
+    text: &mut [u8],
+    out: &mut [u8],
+    want: &mut [u8],
+) -> io::Result<Course> {
     let mut c = opened(0, 0, none());
     let mut at = 0;
     if n < index.len() {
         while at < n {
-            let end = bytes::scan::find(index, at, n, b'\n');
-            c = run_line(index, at, end, c, text, out, want);
+            let end = find(index, at, n, b'\n');
+            c = run_line(rt, index, at, end, c, text, out, want)?;
             at = end + 1;
         }
     }
-    c
+    Ok(c)
 }
 
-fn main() {
-    let mut index = io::large_buffer();
+fn main(rt: HostRuntime) -> io::Result<()> {
+    let mut index = large_buffer();
     let mut text = text_room();
     let mut out = out_room();
     let mut want = out_room();
-    let Loaded::Bytes(n) = load(b"index", b"", &mut index) else {
-        say_differs(b"index");
-        return;
+    let Loaded::Bytes(n) = load(&rt, b"index", b"", &mut index)? else {
+        return say_differs(&rt, b"index");
     };
-    let c = run_all(&index, n, &mut text, &mut out, &mut want);
-    say_group(&index, c);
-    say_tally(b"total", c.total);
+    let c = run_all(&rt, &index, n, &mut text, &mut out, &mut want)?;
+    say_group(&rt, &index, c)?;
+    say_tally(&rt, b"total", c.total)
 }
