@@ -30,7 +30,7 @@ pub record Stage : Type 0 where
 
 pub data Example : Type 0 where
   -- the bytes of a field, and what a load answers in either order
-  field : (stored : List ℕ) (low_first highFirst : Answer ℕ) → Example
+  field : (stored : List ℕ) (low_first high_first : Answer ℕ) → Example
   -- a fresh list of so many rows for so many parties, and the stages that it goes through
   list : (rows parties : ℕ) → List Stage → Example
   -- a text for the schedule program, and its whole output
@@ -65,7 +65,7 @@ stages_of m [] = []
 stages_of m (stage ∷ later) = stage_of m stage ∷ stages_of (run m stage.events) later
 
 abbrev pub given : Example → Example
-given (field stored low_first highFirst) = field stored (load_of stored 0 1) (load_of stored 0 0)
+given (field stored low_first high_first) = field stored (load_of stored 0 1) (load_of stored 0 0)
 given (list rows parties stages) = list rows parties (stages_of (fresh rows parties) stages)
 given (schedule text output) = schedule text (output_of text)
 

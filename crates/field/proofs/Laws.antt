@@ -25,14 +25,14 @@ or_sum k x high low multiple below = rw multiple (or_shifted high k low below)
 -- four bytes shifted to their places and joined: the first counts 16,777,216, the last 1
 pub joined : (a b c d : ℕ) → a < 256 → b < 256 → c < 256 → d < 256 →
     bit_or (bit_or (bit_or (a * 16777216 % 4294967296) (b * 65536 % 4294967296)) (c * 256 % 4294967296)) d ≡ a * 16777216 + b * 65536 + c * 256 + d
-joined a b c d a_byte b-byte c-byte d-byte =
-    let whole-a : a * 16777216 % 4294967296 ≡ a * 16777216 = omega arith in
-    let whole-b : b * 65536 % 4294967296 ≡ b * 65536 = omega arith in
-    let whole-c : c * 256 % 4294967296 ≡ c * 256 = omega arith in
+joined a b c d a_byte b_byte c_byte d_byte =
+    let whole_a : a * 16777216 % 4294967296 ≡ a * 16777216 = omega arith in
+    let whole_b : b * 65536 % 4294967296 ≡ b * 65536 = omega arith in
+    let whole_c : c * 256 % 4294967296 ≡ c * 256 = omega arith in
     rw (
-      whole-a,
-      whole-b,
-      whole-c,
+      whole_a,
+      whole_b,
+      whole_c,
       or_sum 24 (a * 16777216) a (b * 65536) refl (omega arith),
       or_sum 16 (a * 16777216 + b * 65536) (a * 256 + b) (c * 256) (omega arith) (omega arith),
       or_sum 8 (a * 16777216 + b * 65536 + c * 256) (a * 65536 + b * 256 + c) d (omega arith) (omega arith),

@@ -87,9 +87,9 @@ cons_bytes byte rest small all zero = small
 cons_bytes byte rest small all (suc place) = all place
 
 reversed_bytes : (bytes behind : List ℕ) → Bytes bytes → Bytes behind → Bytes (reverse_aux bytes behind)
-reversed_bytes [] behind all all-behind = all-behind
-reversed_bytes (byte ∷ rest) behind all all-behind =
-    reversed_bytes rest (byte ∷ behind) (λ place. all (suc place)) (cons_bytes byte behind (all zero) all-behind)
+reversed_bytes [] behind all all_behind = all_behind
+reversed_bytes (byte ∷ rest) behind all all_behind =
+    reversed_bytes rest (byte ∷ behind) (λ place. all (suc place)) (cons_bytes byte behind (all zero) all_behind)
 
 arranged_bytes : (order : ByteOrder) (bytes : List ℕ) → Bytes bytes → Bytes (arranged order bytes)
 arranged_bytes HighFirst bytes all = all

@@ -20,21 +20,21 @@ ghost use Rattle.field.specs.Readings.{loaded_is, store_leaves, four_bytes};
 use refusal::{Refusal, Verdict};
 
 // Which byte of a number stands first.
-#[derive(Drop)]
+#[derive(Clone, Copy)]
 pub enum ByteOrder {
     HighFirst,
     LowFirst,
 }
 
 // What a load answers.
-#[derive(Drop)]
+#[derive(Clone, Copy)]
 pub enum Loaded {
     Key(u32),
     Refused(Refusal),
 }
 
 // The four bytes of a field, as they stand.
-#[derive(Drop)]
+#[derive(Clone, Copy)]
 struct Four(u8, u8, u8, u8);
 
 // The number of four bytes, the high byte first.

@@ -130,7 +130,7 @@ read_all (suc k) n (suc most) fits small short text before behind stands =
     let smaller : n / 10 < 10 ^ suc k = omega (arith, rw (pow-suc 10 (suc k)) at small) in
     dite (dec_lt n 10)
     (λ (tiny : n < 10). read_one (suc k) n (suc most) tiny text before behind stands)
-    (λ (not-tiny : n < 10 → ⊥).
+    (λ (not_tiny : n < 10 → ⊥).
     let large : 10 ≤ n = omega arith in
     let parted = stands ∙ more_stands (suc most) n large before behind in
     let front = read_all k (n / 10) most (omega arith) smaller (omega arith) text before ((48 + n % 10) ∷ behind) parted in

@@ -65,8 +65,8 @@ same_before_last true up on some other climbing same = refl
 same_before_last false up on some other climbing same = same (and_right up on climbing)
 
 either_below : (splice : Bool) (far near limit : ℕ) → far < limit → near < limit → cond splice far near < limit
-either_below true far near limit far-below near-below = far-below
-either_below false far near limit far-below near-below = near-below
+either_below true far near limit far_below near_below = far_below
+either_below false far near limit far_below near_below = near_below
 
 -- ---- more fuel finds no other key
 

@@ -210,9 +210,9 @@ module _ (T : ℕ) (t : Table) (g : Rows T t) where
     walk_add k f =
         let s₁ : next_at t c < T = next_below c f.below.c in
         let s₂ : next_at t (next_at t c) < T = next_below (next_at t c) s₁ in
-        let no-r : eqb r 0 ≡ true = and_right (eqb s 0) (eqb r 0) f.others in
+        let no_r : eqb r 0 ≡ true = and_right (eqb s 0) (eqb r 0) f.others in
         either (below_key t c k)
-        (either (is_splice t (next_at t c)) (fit tt (omega arith) no-r refl f.keeps_own) (fit tt (omega arith) no-r refl f.keeps_own))
+        (either (is_splice t (next_at t c)) (fit tt (omega arith) no_r refl f.keeps_own) (fit tt (omega arith) no_r refl f.keeps_own))
         (either (is_splice t (next_at t c)) (fit tt (omega arith) refl refl f.keeps_own)
         (either (equals_key t c k) (answer_fits (who (Walk Add k) true) No f.below.own (and_left (leb 4 own) true f.keeps_own))
         (fit (omega arith) (omega arith) refl refl f.keeps_own)))
@@ -222,12 +222,12 @@ module _ (T : ℕ) (t : Table) (g : Rows T t) where
     walk_remove k f =
         let s₁ : next_at t c < T = next_below c f.below.c in
         let s₂ : next_at t (next_at t c) < T = next_below (next_at t c) s₁ in
-        let no-r : eqb r 0 ≡ true = and_right (eqb s 0) (eqb r 0) f.others in
+        let no_r : eqb r 0 ≡ true = and_right (eqb s 0) (eqb r 0) f.others in
         let from : leb 4 own ≡ true = and_left (leb 4 own) true f.keeps_own in
         let row : 4 ≤ own = leb-true 4 own from in
         let no : FitMove T (answers (who (Walk Remove k) true) No) = answer_fits (who (Walk Remove k) true) No f.below.own from in
         either (below_key t c k)
-        (either (is_splice t (next_at t c)) (fit tt (omega arith) no-r refl f.keeps_own) (fit tt (omega arith) no-r refl f.keeps_own))
+        (either (is_splice t (next_at t c)) (fit tt (omega arith) no_r refl f.keeps_own) (fit tt (omega arith) no_r refl f.keeps_own))
         (either (not (equals_key t c k) || is_splice t (next_at t c)) no (fit (omega arith) (omega arith) refl refl f.keeps_own))
 
     walk_marked : (k : ℕ) → Fits T (who (Walk Remove k) false) → FitMove T (walk_of t (who (Walk Remove k) false) Remove k)
@@ -273,8 +273,8 @@ module _ (T : ℕ) (t : Table) (g : Rows T t) where
     back_add k f =
         let n₁ : next_at t p < T = next_below p f.below.p in
         let p₁ : back_at t (next_at t p) < T = back_below (next_at t p) n₁ in
-        let no-r : eqb r 0 ≡ true = and_right (eqb n 0 && eqb c 0 && eqb s 0) (eqb r 0) f.others in
-        either (is_splice t (next_at t p)) (fit tt (omega arith) no-r refl f.keeps_own) (fit tt (omega arith) no-r refl f.keeps_own)
+        let no_r : eqb r 0 ≡ true = and_right (eqb n 0 && eqb c 0 && eqb s 0) (eqb r 0) f.others in
+        either (is_splice t (next_at t p)) (fit tt (omega arith) no_r refl f.keeps_own) (fit tt (omega arith) no_r refl f.keeps_own)
 
     back_remove : (k : ℕ) → Fits T (who (Back Remove k) false) → FitMove T (back_of t (who (Back Remove k) false) Remove k)
     unfolding back_of

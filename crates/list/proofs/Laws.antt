@@ -153,8 +153,8 @@ module _ (m : Machine) (places : List ℕ) where
   room : list_tests m (length places) ≡ passed → length (live_keys m) ≤ length places
   room passes =
       let asked = (past_form m (list_asks m (length places)) passes).2 in
-      let past-rise = (past_test (not (chain_rises m)) 3 (refusing (ltb (length places) (length (live_keys m))) 10 passed) asked).1 in
-      ltb-false (length places) (length (live_keys m)) (past_test (ltb (length places) (length (live_keys m))) 10 passed past-rise).0
+      let past_rise = (past_test (not (chain_rises m)) 3 (refusing (ltb (length places) (length (live_keys m))) 10 passed) asked).1 in
+      ltb-false (length places) (length (live_keys m)) (past_test (ltb (length places) (length (live_keys m))) 10 passed past_rise).0
 
   pub list_accepts : (asked : Verdict) {verdict : Verdict} {rise : Bool} {count : ℕ} {after : List ℕ} →
       rise ≡ chain_rises m → count ≡ length (live_keys m) →
@@ -162,8 +162,8 @@ module _ (m : Machine) (places : List ℕ) where
       verdict_is verdict ≡ form_tests m (verdict_is asked) → verdict ≡ Accepted → after ≡ sets places 0 (live_keys m) →
       left after (accepted count) ≡ list_of m places
   unfolding list_of
-  list_accepts asked rise-is counts asks forms is writes =
-      let passes : list_tests m (length places) ≡ passed = form_told m asked (rw (← rise-is, ← counts) asks) forms is in
+  list_accepts asked rise_is counts asks forms is writes =
+      let passes : list_tests m (length places) ≡ passed = form_told m asked (rw (← rise_is, ← counts) asks) forms is in
       let listed : sets places 0 (live_keys m) ≡ places_with (live_keys m) places =
       rw zero-add at (sets-eq (live_keys m) places 0 (rw zero-add (room passes))) in
       rw (writes, counts, listed) (leaves_changed (list_tests m (length places)) places
@@ -175,6 +175,6 @@ module _ (m : Machine) (places : List ℕ) where
       verdict_is verdict ≡ form_tests m (verdict_is asked) → verdict ≡ Refused why →
       left places (refused (number_of why)) ≡ list_of m places
   unfolding list_of
-  list_refuses asked rise-is counts asks forms is =
+  list_refuses asked rise_is counts asks forms is =
       leaves_found (list_tests m (length places)) places (left (places_with (live_keys m) places) (accepted (length (live_keys m))))
-      (form_told m asked (rw (← rise-is, ← counts) asks) forms is)
+      (form_told m asked (rw (← rise_is, ← counts) asks) forms is)

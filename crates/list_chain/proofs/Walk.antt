@@ -78,16 +78,16 @@ puts_key true key later places place = rw add-one
 puts_key false key later places place = rw add-zero
 
 module _ (t : Table) (row left : ℕ) (some : 0 < left) (goes : row ≢ 2) {live : Bool} {one later : ℕ}
-    (lives : live ≡ is_live t row) (counts : one ≡ one_if live) (is-behind : later ≡ behind t row) where
+    (lives : live ≡ is_live t row) (counts : one ≡ one_if live) (is_behind : later ≡ behind t row) where
   pub count_on : (count : ℕ) → count + length (live_from t left row) ≡ count + one + length (live_from t (left - 1) later)
   count_on count =
-      rw (counts, lives, is-behind)
+      rw (counts, lives, is_behind)
       (ap (λ (keys : List ℕ). count + length keys) (live_on t row left some goes)
       ∙ counts_key (is_live t row) (key_at t row) (live_from t (left - 1) (behind t row)) count)
 
   pub put_on : (places : List ℕ) (place : ℕ) {key : ℕ} {after : List ℕ} → key ≡ key_at t row → after ≡ cond live (set places place key) places →
       sets places place (live_from t left row) ≡ sets after (place + one) (live_from t (left - 1) later)
   put_on places place is_key puts =
-      rw (puts, counts, lives, is_key, is-behind)
+      rw (puts, counts, lives, is_key, is_behind)
       (ap (λ (keys : List ℕ). sets places place keys) (live_on t row left some goes)
       ∙ puts_key (is_live t row) (key_at t row) (live_from t (left - 1) (behind t row)) places place)

@@ -137,22 +137,22 @@ party_after m i h moved =
     rw (same_parties moved.access (with_party m.state i moved.party)) (get_or-set_same m.state.parties i moved.party blank h)
 
 -- below their limit the tallies count what the deed counts
-module _ (st : State) (below-moves : st.tallies.moves < 4294967295) (below-won : st.tallies.won < 4294967295)
-    (below-lost : st.tallies.lost < 4294967295) where
+module _ (st : State) (below_moves : st.tallies.moves < 4294967295) (below_won : st.tallies.won < 4294967295)
+    (below_lost : st.tallies.lost < 4294967295) where
   deed_moves : (deed : Deed) → (tallied (access_of deed) st).tallies.moves ≡ st.tallies.moves + (deed_counts deed).moves
   deed_moves called = omega arith
-  deed_moves read = rw (lt-ltb st.tallies.moves 4294967295 below-moves)
-  deed_moves (add_won key) = rw (lt-ltb st.tallies.moves 4294967295 below-moves)
-  deed_moves (mark_won key) = rw (lt-ltb st.tallies.moves 4294967295 below-moves)
-  deed_moves clean_won = rw (lt-ltb st.tallies.moves 4294967295 below-moves)
-  deed_moves lost = rw (lt-ltb st.tallies.moves 4294967295 below-moves)
+  deed_moves read = rw (lt-ltb st.tallies.moves 4294967295 below_moves)
+  deed_moves (add_won key) = rw (lt-ltb st.tallies.moves 4294967295 below_moves)
+  deed_moves (mark_won key) = rw (lt-ltb st.tallies.moves 4294967295 below_moves)
+  deed_moves clean_won = rw (lt-ltb st.tallies.moves 4294967295 below_moves)
+  deed_moves lost = rw (lt-ltb st.tallies.moves 4294967295 below_moves)
 
   deed_won : (deed : Deed) → (tallied (access_of deed) st).tallies.won ≡ st.tallies.won + (deed_counts deed).won
   deed_won called = omega arith
   deed_won read = omega arith
-  deed_won (add_won key) = rw (lt-ltb st.tallies.won 4294967295 below-won)
-  deed_won (mark_won key) = rw (lt-ltb st.tallies.won 4294967295 below-won)
-  deed_won clean_won = rw (lt-ltb st.tallies.won 4294967295 below-won)
+  deed_won (add_won key) = rw (lt-ltb st.tallies.won 4294967295 below_won)
+  deed_won (mark_won key) = rw (lt-ltb st.tallies.won 4294967295 below_won)
+  deed_won clean_won = rw (lt-ltb st.tallies.won 4294967295 below_won)
   deed_won lost = omega arith
 
   deed_lost : (deed : Deed) → (tallied (access_of deed) st).tallies.lost ≡ st.tallies.lost + (deed_counts deed).lost
@@ -161,7 +161,7 @@ module _ (st : State) (below-moves : st.tallies.moves < 4294967295) (below-won :
   deed_lost (add_won key) = omega arith
   deed_lost (mark_won key) = omega arith
   deed_lost clean_won = omega arith
-  deed_lost lost = rw (lt-ltb st.tallies.lost 4294967295 below-lost)
+  deed_lost lost = rw (lt-ltb st.tallies.lost 4294967295 below_lost)
 
 -- ---- every event
 

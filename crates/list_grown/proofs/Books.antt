@@ -202,7 +202,7 @@ module _ (orphan : ℕ → Bool) (m : Machine) (v : Inv (view_of orphan m)) (i :
       → stale (λ row. next_at (written (Link x u) t) row) q' q'.place ≤ stale (λ row. next_at t row) q l
       → owes q'.place q'.unpublished + 1 ≤ owes l q.unpublished + (ins_of deed + 2 * outs_of deed)
       → one_if q'.unpublished + ((deed_counts deed).adds + (deed_counts deed).marks) ≡ one_if q.unpublished → Books l (wins q' said x u) deed
-  made l q' said x u deed a no-loss win b c e = record {
+  made l q' said x u deed a no_loss win b c e = record {
     access = sym a;
     plain = tt;
     mine = omega arith;

@@ -33,7 +33,7 @@ use Rattle.list.proofs.Kept.{call_keeps, move_keeps}
 use Rattle.list_grown.specs.History.{is_accepted, accepts}
 use Rattle.list_grown.specs.Deeds.{called, deed_of}
 use Rattle.logic.proofs.Cases.{by_test}
-use Rattle.list_grown.proofs.Advance.{begun, Advances, moves as move-event, spares, takes, asks}
+use Rattle.list_grown.proofs.Advance.{begun, Advances, moves as move_event, spares, takes, asks}
 
 abbrev pub whose : Event → ℕ
 whose (calls party code key) = party
@@ -77,7 +77,7 @@ module _ (m : Machine) (i : ℕ) where
 
   unchecked_event : is_idle (party_of m i).place ≡ false → Advances m i (unchecked_move m i).after (deed_of m (moves i))
   unfolding unchecked_move
-  unchecked_event busy = move-event busy
+  unchecked_event busy = move_event busy
 
   -- a party that moves is known, and has a call to answer
   pub move_asked : move_tests m i ≡ passed → (i < m.state.count) × (is_idle (party_of m i).place ≡ false)

@@ -248,11 +248,11 @@ module _ (orphan : ℕ → Bool) (m : Machine) (v : Inv (view_of orphan m)) (z :
       let a = mark_mark g W b (hidden N.hidden) N.is (n ∙ sym e) N.behind (won_write v s) (won_mine v s q.own (N.hidden, refl))
       (λ x d. just_own x (won_new v s x d)) in
       let W' = walking_ext g (mark_ext g a) W in
-      let on-own = s.off q.own (λ d. hidden N.hidden (rw d r.known)) in
+      let on_own = s.off q.own (λ d. hidden N.hidden (rw d r.known)) in
       subst (λ K. Steady (view_of orphan m) (became (link m.table q.c q.own) q') (lose K q.own)) b (inv_mark v s a (rw (now q') (
-        rw (s.at, on-own, n) at (walk_past (mark_good g a) W' (rw s.at N.is)),
+        rw (s.at, on_own, n) at (walk_past (mark_good g a) W' (rw s.at N.is)),
         omega (arith, b, rw (skip_pos _ _ _ o, e) at ((g.each _ r.known).rises r.pos (omega arith)).0),
-        record { shown = refl; known = won_mine v s q.own (N.hidden, refl); is = N.is; nxt = on-own ∙ n },
+        record { shown = refl; known = won_mine v s q.own (N.hidden, refl); is = N.is; nxt = on_own ∙ n },
       )))
 
   -- ---- the rest

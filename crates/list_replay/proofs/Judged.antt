@@ -110,9 +110,9 @@ pub same_output : SameOutput
 unfolding output_by
 same_output text =
     let bad = first_bad text (head_of text) in
-    let by-plain = judged plain text (head_of text) bad in
-    let by-checked = judged checked text (head_of text) bad in
-    by_test (λ long. ltb 65536 (length text) ≡ long → cond long (bad_line 0) by-plain ≡ cond long (bad_line 0) by-checked)
+    let by_plain = judged plain text (head_of text) bad in
+    let by_checked = judged checked text (head_of text) bad in
+    by_test (λ long. ltb 65536 (length text) ≡ long → cond long (bad_line 0) by_plain ≡ cond long (bad_line 0) by_checked)
     (ltb 65536 (length text)) (λ t e. refl) (λ f e. judged_same text (ltb-false 65536 (length text) e) bad refl) refl
 
 pub listing_stands : ListingStands

@@ -200,8 +200,8 @@ module _ {w : World} {f : ℕ → ℕ} {P : ℕ → Type 0} {p e v : ℕ} (g : I
   -- a row that is on the list after the swing was not passed by
   pub swing_over : {y : ℕ} → w.Pub y → Reach (put w f P) y 1 → w.rank p < w.rank y → w.rank e ≤ w.rank y
   swing_over {y} k t h =
-      let to-p = swing_p.reach not_low (omega (arith, m.high)) (rw m.write.at (omega (arith, m.above))) in
-      past (reach_linear swing_good swing_good.one to-p t (omega arith))
+      let to_p = swing_p.reach not_low (omega (arith, m.high)) (rw m.write.at (omega (arith, m.above))) in
+      past (reach_linear swing_good swing_good.one to_p t (omega arith))
     where
       at_v : (v ≡ e) ⊎ FreshItem w e v → Reach (put w f P) y v → w.rank e ≤ w.rank y
       at_v (inl q) s = reach_le swing_good (row_put m.write ahead.0) (subst (Reach (put w f P) y) q s)

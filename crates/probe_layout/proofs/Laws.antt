@@ -117,13 +117,13 @@ pub record_told : (bytes : List ℕ) (at : ℕ) {code number key p n c s r own f
     record { place = place; p = p; n = n; c = c; s = s; r = r; own = own; unpublished = eqb flag 1 } ≡ record_at bytes at
 unfolding record_at
 record_told bytes at {code} {number} {key} codes calls numbers keys places ps ns cs ss rs owns flags =
-    let call-so = calls ∙ ap call_named codes in
-    let place-so =
+    let call_so = calls ∙ ap call_named codes in
+    let place_so =
     places
-    ∙ ap (λ (x : Call). place_numbered number x key) call-so
+    ∙ ap (λ (x : Call). place_numbered number x key) call_so
     ∙ ap (λ (x : ℕ). place_numbered x (call_named (byte_at bytes (at + 1))) key) numbers
     ∙ ap (place_numbered (byte_at bytes at) (call_named (byte_at bytes (at + 1)))) keys in
-    rw (place-so, ps, ns, cs, ss, rs, owns, flags)
+    rw (place_so, ps, ns, cs, ss, rs, owns, flags)
 
 pub flag_byte : (flag : Bool) → bool_byte flag ≡ cond flag 1 0
 flag_byte true = refl

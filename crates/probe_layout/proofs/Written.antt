@@ -57,22 +57,22 @@ moved g from to stands = rw (← from, ← to) stands
 
 low_two : (a b : ℕ) → a < 256 → b < 256 → a ∷ b ∷ [] ≡ low 2 (a + 256 * b)
 unfolding bytes_in
-low_two a b a_small b-small =
+low_two a b a_small b_small =
     let first : (a + 256 * b) / 1 % 256 ≡ a = omega arith in
     let second : (a + 256 * b) / 256 % 256 ≡ b = omega arith in
     rw (first, second)
 
 low_four : (a b c d : ℕ) → a < 256 → b < 256 → c < 256 → d < 256 → a ∷ b ∷ c ∷ d ∷ [] ≡ low 4 (a + 256 * b + 65536 * (c + 256 * d))
 unfolding bytes_in
-low_four a b c d a_small b-small c-small d_small =
-    let over-one : (a + 256 * b + 65536 * (c + 256 * d)) / 256 ≡ b + 256 * (c + 256 * d) = omega arith in
-    let over-two : (a + 256 * b + 65536 * (c + 256 * d)) / 65536 ≡ c + 256 * d = omega arith in
-    let over-three : (a + 256 * b + 65536 * (c + 256 * d)) / 16777216 ≡ d = omega arith in
+low_four a b c d a_small b_small c_small d_small =
+    let over_one : (a + 256 * b + 65536 * (c + 256 * d)) / 256 ≡ b + 256 * (c + 256 * d) = omega arith in
+    let over_two : (a + 256 * b + 65536 * (c + 256 * d)) / 65536 ≡ c + 256 * d = omega arith in
+    let over_three : (a + 256 * b + 65536 * (c + 256 * d)) / 16777216 ≡ d = omega arith in
     let first : (a + 256 * b + 65536 * (c + 256 * d)) / 1 % 256 ≡ a = omega arith in
     let second : (b + 256 * (c + 256 * d)) % 256 ≡ b = omega arith in
     let third : (c + 256 * d) % 256 ≡ c = omega arith in
     let fourth : d % 256 ≡ d = omega arith in
-    rw (over-one, over-two, over-three, first, second, third, fourth)
+    rw (over_one, over_two, over_three, first, second, third, fourth)
 
 module _ (bytes : List ℕ) where
   one : (at to : ℕ) → at + 1 ≡ to → to ≤ length bytes → Stands bytes at (byte_at bytes at ∷ []) to
@@ -159,16 +159,16 @@ module _ (bytes : List ℕ) (all : Bytes bytes) (at : ℕ) where
       let no_key = eqb (four_at bytes (at + 2)) 0 in
       let flag = leb (byte_at bytes (at + 18)) 1 in
       let last = eqb (byte_at bytes (at + 19)) 0 in
-      let to-flag = and_left (known && calls && (not idle || (no_call && no_key)) && flag) last fit in
-      let to-idle = and_left (known && calls && (not idle || (no_call && no_key))) flag to-flag in
-      let to-calls = and_left (known && calls) (not idle || (no_call && no_key)) to-idle in
-      let zero-last = eqb-true (byte_at bytes (at + 19)) 0 (and_right (known && calls && (not idle || (no_call && no_key)) && flag) last fit) in
-      let small-flag = leb-true (byte_at bytes (at + 18)) 1 (and_right (known && calls && (not idle || (no_call && no_key))) flag to-flag) in
+      let to_flag = and_left (known && calls && (not idle || (no_call && no_key)) && flag) last fit in
+      let to_idle = and_left (known && calls && (not idle || (no_call && no_key))) flag to_flag in
+      let to_calls = and_left (known && calls) (not idle || (no_call && no_key)) to_idle in
+      let zero_last = eqb-true (byte_at bytes (at + 19)) 0 (and_right (known && calls && (not idle || (no_call && no_key)) && flag) last fit) in
+      let small_flag = leb-true (byte_at bytes (at + 18)) 1 (and_right (known && calls && (not idle || (no_call && no_key))) flag to_flag) in
       let none : byte_at bytes at ≡ 0 → (byte_at bytes (at + 1) ≡ 0) × (four_at bytes (at + 2) ≡ 0) =
-      λ is. let both = else_both idle no_call no_key (and_right (known && calls) (not idle || (no_call && no_key)) to-idle) (rw is) in
+      λ is. let both = else_both idle no_call no_key (and_right (known && calls) (not idle || (no_call && no_key)) to_idle) (rw is) in
       (eqb-true (byte_at bytes (at + 1)) 0 both.0, eqb-true (four_at bytes (at + 2)) 0 both.1) in
-      let place = place_stands (omega arith) (leb-true (byte_at bytes at) 8 (and_left known calls to-calls))
-      (leb-true (byte_at bytes (at + 1)) 2 (and_right known calls to-calls)) none in
+      let place = place_stands (omega arith) (leb-true (byte_at bytes at) 8 (and_left known calls to_calls))
+      (leb-true (byte_at bytes (at + 1)) 2 (and_right known calls to_calls)) none in
       let numbers = join (join (join (join (join (join place
       (two bytes all (at + 6) (at + 8) (omega arith) (omega arith)))
       (two bytes all (at + 8) (at + 10) (omega arith) (omega arith)))
@@ -177,8 +177,8 @@ module _ (bytes : List ℕ) (all : Bytes bytes) (at : ℕ) where
       (two bytes all (at + 14) (at + 16) (omega arith) (omega arith)))
       (two bytes all (at + 16) (at + 18) (omega arith) (omega arith)) in
       let ends = join (one bytes (at + 18) (at + 19) (omega arith) (omega arith)) (one bytes (at + 19) (at + 20) (omega arith) inside) in
-      join numbers (named (ap (λ (n : ℕ). n ∷ byte_at bytes (at + 19) ∷ []) (flag_back (byte_at bytes (at + 18)) small-flag)
-      ∙ ap (λ (n : ℕ). cond (eqb (byte_at bytes (at + 18)) 1) 1 0 ∷ n ∷ []) zero-last) ends)
+      join numbers (named (ap (λ (n : ℕ). n ∷ byte_at bytes (at + 19) ∷ []) (flag_back (byte_at bytes (at + 18)) small_flag)
+      ∙ ap (λ (n : ℕ). cond (eqb (byte_at bytes (at + 18)) 1) 1 0 ∷ n ∷ []) zero_last) ends)
 
 -- ---- the whole
 
@@ -211,14 +211,14 @@ module _ (bytes : List ℕ) (all : Bytes bytes) (fit : Fit bytes) where
       (λ i below. two bytes all (nexts_from bytes + 2 * i) (nexts_from bytes + 2 * i + 2) refl (omega arith)) in
       let backs = rows bytes (low 2) (two_at bytes) 2 (backs_in bytes) (backs_from bytes)
       (λ i below. two bytes all (backs_from bytes + 2 * i) (backs_from bytes + 2 * i + 2) refl (omega arith)) in
-      let kinds-to : 363 + 1 * kinds_in bytes ≡ keys_from bytes = omega arith in
+      let kinds_to : 363 + 1 * kinds_in bytes ≡ keys_from bytes = omega arith in
       join (join (join (join (join (join (join (join
       (named (ap (low 2) (sym (long_each (byte_at bytes) 1 (kinds_in bytes) 363))) (two bytes all 15 17 refl (omega arith)))
       (named (ap (low 2) (sym (long_each (four_at bytes) 4 (keys_in bytes) (keys_from bytes)))) (two bytes all 17 19 refl (omega arith))))
       (named (ap (low 2) (sym (long_each (two_at bytes) 2 (nexts_in bytes) (nexts_from bytes)))) (two bytes all 19 21 refl (omega arith))))
       (named (ap (low 2) (sym (long_each (two_at bytes) 2 (backs_in bytes) (backs_from bytes)))) (two bytes all 21 23 refl (omega arith))))
       state_stands)
-      (moved (λ at. one_by_one (low 1) (each (byte_at bytes) 1 (kinds_in bytes) 363)) refl kinds-to kinds))
+      (moved (λ at. one_by_one (low 1) (each (byte_at bytes) 1 (kinds_in bytes) 363)) refl kinds_to kinds))
       keys)
       nexts)
       backs

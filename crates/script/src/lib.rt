@@ -10,7 +10,7 @@ ghost use Rattle.script.specs.Body.{most_lines, end_bad, last_bad, bad_from, fir
 use text::{LOST, Number};
 
 // The name of a call as its code, and the place behind it.
-#[derive(Drop)]
+#[derive(Clone, Copy)]
 struct Verb {
     code: u32,
     next: usize,

@@ -21,21 +21,21 @@ ghost use Rattle.text.specs.Reading.{
 pub const LOST: usize = 18446744073709551615;
 
 // A number, and the place behind it.
-#[derive(Drop)]
+#[derive(Clone, Copy)]
 pub struct Number {
     pub value: u32,
     pub next: usize,
 }
 
 // The byte that two hex digits write, and the place behind them.
-#[derive(Drop)]
+#[derive(Clone, Copy)]
 struct Pair {
     value: u8,
     next: usize,
 }
 
 // The four bytes of a field as they stand, and the place behind them.
-#[derive(Drop)]
+#[derive(Clone, Copy)]
 pub struct Field {
     pub b0: u8,
     pub b1: u8,
