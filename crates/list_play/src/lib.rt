@@ -1,5 +1,6 @@
 // A line on a list that a program has set up itself: the refusals but 1 and 3, then the unchecked call or move.
 #![tactic(auto)]
+
 ghost use Rattle.std.specs.Prelude.{◌≡◌};
 ghost use Rattle.list_rows.specs.Table.{before_mut, after};
 ghost use Rattle.list_unchecked.specs.Unchecked.{machine};
