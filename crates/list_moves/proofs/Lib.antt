@@ -1,3 +1,3 @@
--- The laws that the proofs of the moves cite, and that the contract leaves no choice.
+-- The laws of the moves, case by case, and that the contract leaves no choice.
 pub mod Laws
 pub mod Determined

@@ -1,4 +1,4 @@
--- The laws that the proofs of the rows cite, and that the contracts leave no choice.
+-- The laws of ranks and writes, the order of the rows, and that the contracts leave no choice.
 pub mod Laws
 pub mod Order
 pub mod Determined

@@ -2,7 +2,7 @@
 // and prints a line a group and a total.
 #![tactic(auto)]
 
-ghost use Rattle.std.specs.Prelude.{◌≡◌, length, take, ◌≤◌};
+ghost use Rattle.std.specs.Prelude.{◌≡◌, ◌≢◌, ℕ, length, slice_index, take, ◌<◌, ◌≤◌};
 ghost use Rattle.std.specs.Io.{ReadsAtMost};
 
 use list_replay::replay;
@@ -277,11 +277,15 @@ fn find(index: &[u8], at: usize, n: usize, byte: u8) -> usize
     requires n_in_bounds { n ≤ length index.now }
     ensures at_le_result { at ≤ result }
     ensures result_le_n { result ≤ n }
+    ensures none_before { (k : ℕ) → at ≤ k → k < result → slice_index index.now k ≢ byte }
+    ensures found { result < n → slice_index index.now result ≡ byte }
 {
-    match index[at..n].iter().position(|b| *b == byte) {
-        Some(i) => at + i,
-        None => n,
+    for i in at..n {
+        if index[i] == byte {
+            return i;
+        }
     }
+    n
 }
 
 // Runs every line of the first n bytes of the index.
