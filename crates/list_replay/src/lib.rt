@@ -175,6 +175,7 @@ fn run_new(text: &[u8], head: Head, out: &mut [u8]) -> usize
 
 // Leaves the output of a schedule's text at the start of the buffer, as far as it has room, and answers the place
 // behind what was put.
+#[tactic(auto, using(crate::proofs::Judged::out_large))]
 pub fn replay(text: &[u8], out: &mut [u8]) -> usize
     ensures { Puts out 0 (output_of text.now) result }
 {

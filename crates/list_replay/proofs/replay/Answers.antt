@@ -4,11 +4,8 @@ use native.Mathlib.Omega.{arith}
 use Rattle.page.proofs.Laws.{told}
 use Rattle.script.specs.Body.{first_bad}
 use Rattle.list_replay.specs.Output.{checked, plain}
-use Rattle.list_replay.proofs.Judged.{out_large, out_bad, out_good, head_good, rows_fit, same_output}
+use Rattle.list_replay.proofs.Judged.{out_bad, out_good, head_good, rows_fit, same_output}
 use Rattle.list_replay.proofs.replay.Goals as goal
-
-pub returns-then-text-gt65536 : goal.returns-then-text-gt65536
-returns-then-text-gt65536 c = told c.put_bad.ensures (out_large checked c.args.text.now (omega arith))
 
 pub returns-then-bad-ne0 : goal.returns-then-bad-ne0
 returns-then-bad-ne0 c =
