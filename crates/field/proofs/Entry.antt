@@ -35,7 +35,8 @@ module _ (len place code : ℕ) where
 pub is_inside : (len place code : ℕ) → field_tests len place code ≡ passed → place + 4 ≤ len
 unfolding field_tests
 is_inside len place code passes =
-    let past_order : refusing (runs_past len place) 10 passed ≡ passed = (past_test (no_such_order code) 11 (refusing (runs_past len place) 10 passed) passes).1 in
+    let past_order : refusing (runs_past len place) 10 passed ≡ passed =
+    (past_test (no_such_order code) 11 (refusing (runs_past len place) 10 passed) passes).1 in
     ltb-false len (place + 4) (past_test (runs_past len place) 10 passed past_order).0
 
 -- ---- a load

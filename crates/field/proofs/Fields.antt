@@ -70,7 +70,8 @@ module _ (order : ByteOrder) (width : ℕ) (bytes : List ℕ) (place : ℕ) (ins
   fits : (number : ℕ) → place + length (bytes_in order width number) ≤ length bytes
   fits number = rw (long_bytes order width number) inside
 
-  touches_no_other : (number other : ℕ) → (other < place) ⊎ (place + width ≤ other) → get_or (stored order width bytes place number) other 0 ≡ get_or bytes other 0
+  touches_no_other : (number other : ℕ) → (other < place) ⊎ (place + width ≤ other) →
+      get_or (stored order width bytes place number) other 0 ≡ get_or bytes other 0
   unfolding stored
   touches_no_other number other =
       ⊎_elim

@@ -62,7 +62,8 @@ store_then_load bytes place code key small accepts =
     let inside : place + 4 ≤ length bytes = is_inside (length bytes) place code passes in
     let after : List ℕ = stored (order_of code) 4 bytes place key in
     let long : length (stored (order_of code) 4 bytes place key) ≡ length bytes = (store_touches_no_other (order_of code) 4 bytes place key inside).0 in
-    let left_so : left (stored (order_of code) 4 bytes place key) passed ≡ store_of bytes place code key = store_accepts bytes place code key passes refl refl in
+    let left_so : left (stored (order_of code) 4 bytes place key) passed ≡ store_of bytes place code key =
+    store_accepts bytes place code key passes refl refl in
     let held : key ≡ field_at (order_of code) 4 after place = sym (stored_is_held (order_of code) 4 bytes place key inside small) in
     rw (← left_so) (sym (load_accepts after place code (ap (λ (n : ℕ). field_tests n place code) long ∙ passes) refl held))
 

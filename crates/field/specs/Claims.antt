@@ -50,7 +50,8 @@ LoadsExactly =
     (bytes : List ℕ) (place code : ℕ) →
     (1 < code → load_of bytes place code ≡ refused 11)
     × (code ≤ 1 → length bytes < place + 4 → load_of bytes place code ≡ refused 10)
-    × (code ≤ 1 → place + 4 ≤ length bytes → load_of bytes place code ≡ accepted (field_at (order_of code) 4 bytes place))
+    × (code ≤ 1 → place + 4 ≤ length bytes →
+    load_of bytes place code ≡ accepted (field_at (order_of code) 4 bytes place))
 
 -- a store in the same three cases; refused, it leaves the record as found
 abbrev pub StoresExactly : Type 0

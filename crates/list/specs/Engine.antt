@@ -61,7 +61,8 @@ abbrev pub call_tests : Machine → (party code : ℕ) → Tests
 call_tests m party code = form_tests m (call_asks m.state (rows_in m.table) party code)
 
 unfoldable pub call_of : Machine → (party code key : ℕ) → Left Machine (Unit {0})
-call_of m party code key = leaving (call_tests m party code) m (left (unchecked_call m party (call_named code) key) passed)
+call_of m party code key =
+    leaving (call_tests m party code) m (left (unchecked_call m party (call_named code) key) passed)
 
 -- ---- move: 1, 3, 4, 8, 9
 

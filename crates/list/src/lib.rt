@@ -206,7 +206,8 @@ pub fn step(
     state: State,
     number: u32,
 ) -> Stepped
-    ensures { step_is (after kind key next back) result ≡ move_of (machine (before_mut kind key next back) state) number }
+    ensures { step_is (after kind key next back) result
+        ≡ move_of (machine (before_mut kind key next back) state) number }
 {
     let verdict = form_verdict(kind, key, next, back, state, move_asks(state, number));
     match verdict {

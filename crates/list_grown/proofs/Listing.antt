@@ -92,7 +92,8 @@ module _ (orphan : ℕ → Bool) (m : Machine) where
         (λ up. ltb-false (w.rank 1) (w.rank row) up)
 
     -- a row before row 2, in front of the keys behind it
-    one_more_lem : {keys : List ℕ} (row : ℕ) → w.rank row < w.rank 2 → KeysFrom w (succ w row) keys → KeysFrom w row (with_key (is_live t row) (key_at t row) keys)
+    one_more_lem : {keys : List ℕ} (row : ℕ) → w.rank row < w.rank 2 → KeysFrom w (succ w row) keys →
+        KeysFrom w row (with_key (is_live t row) (key_at t row) keys)
     one_more_lem {keys} row high chain = by_test (λ counts. KeysFrom w row (with_key counts (key_at t row) keys)) (is_live t row)
         (λ is. let item = live_item t row is in live {a = row} (omega (arith, v.scale.0)) high item.1 item.0 chain)
         (λ is. past high (uncounted row high is) chain)
@@ -106,7 +107,8 @@ module _ (orphan : ℕ → Bool) (m : Machine) where
 
     -- before row 2 a walk goes on
     goes_on_lem : (fuel row : ℕ) → row ≢ 2 → w.rank row < w.rank (succ w row) →
-        (live_from t (suc fuel) row ≡ with_key (is_live t row) (key_at t row) (live_from t fuel (succ w row))) × (rises t (suc fuel) row ≡ rises t fuel (succ w row))
+        (live_from t (suc fuel) row ≡ with_key (is_live t row) (key_at t row) (live_from t fuel (succ w row)))
+        × (rises t (suc fuel) row ≡ rises t fuel (succ w row))
     unfolding live_from rises
     goes_on_lem fuel row n up = rw (ne_eqb row 2 n, behind_is row, lt-ltb (w.rank row) (w.rank (succ w row)) up) (refl, refl)
 

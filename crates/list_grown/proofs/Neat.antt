@@ -31,7 +31,9 @@ use Rattle.list_grown.specs.Rest.{row_after}
 use Rattle.list_grown.proofs.Party.{At}
 use Rattle.list_grown.proofs.View.{View, world, Inv, Steady}
 use Rattle.list_grown.proofs.Machine.{view_of, world_of, change_of}
-use Rattle.list_grown.proofs.Does.{Does, does, passes, steps, cut_other, cut_late, cut_ready, cut_again, cut_done, mark_wins, clean_wins, clean_loses, backs, back_ends, add_finds, add_loses, add_ready, add_skips, add_wins, look_finds, look_late, look_other, look_passes, look_steps, mark_loses, rereads, rereads_late, skip_ends, skips}
+use Rattle.list_grown.proofs.Does.{Does, does, passes, steps, cut_other, cut_late, cut_ready, cut_again, cut_done, mark_wins, clean_wins, clean_loses}
+use Rattle.list_grown.proofs.Does.{backs, back_ends, add_finds, add_loses, add_ready, add_skips, add_wins, look_finds, look_late, look_other}
+use Rattle.list_grown.proofs.Does.{look_passes, look_steps, mark_loses, rereads, rereads_late, skip_ends, skips}
 use Rattle.list_grown.proofs.Steps.{clean_swings}
 use Rattle.list_grown.proofs.Advance.{Advances, moves, spares, takes, asks, Advanced, party_after}
 use Rattle.list_grown.proofs.Listing.{behind_is, no_splice}

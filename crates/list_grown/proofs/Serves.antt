@@ -22,7 +22,9 @@ use Rattle.list_world.proofs.World.{World}
 use Rattle.list_world.proofs.Live.{LiveRank}
 use Rattle.list_grown.specs.Deeds.{Deed, add_won, mark_won, deed_at}
 use Rattle.list_grown.proofs.Machine.{world_of}
-use Rattle.list_grown.proofs.Does.{Does, passes, steps, add_skips, add_finds, add_ready, cut_other, cut_late, cut_ready, cut_again, cut_done, skips, skip_ends, add_wins, add_loses, mark_wins, mark_loses, rereads_late, rereads, backs, back_ends, look_passes, look_steps, look_other, look_late, look_finds, clean_loses, clean_wins}
+use Rattle.list_grown.proofs.Does.{Does, passes, steps, add_skips, add_finds, add_ready, cut_other, cut_late, cut_ready, cut_again, cut_done, skips}
+use Rattle.list_grown.proofs.Does.{skip_ends, add_wins, add_loses, mark_wins, mark_loses, rereads_late, rereads, backs, back_ends, look_passes}
+use Rattle.list_grown.proofs.Does.{look_steps, look_other, look_late, look_finds, clean_loses, clean_wins}
 use Rattle.list_grown.proofs.Replies.{Told, add_yes, add_no, cut_yes, look_yes, clean_yes, cut_no, look_no, reread_no}
 use Rattle.list_grown.proofs.Track.{Seeks, walks, marks, again, looks}
 

@@ -29,7 +29,9 @@ use Rattle.list_grown.specs.Deeds.{Deed}
 use Rattle.list_grown.proofs.Party.{At}
 use Rattle.list_grown.proofs.View.{View, world, Inv, Steady}
 use Rattle.list_grown.proofs.Machine.{view_of, world_of, change_of}
-use Rattle.list_grown.proofs.Does.{Does, does, passes, steps, cut_ready, cut_again, mark_wins, mark_loses, rereads, look_passes, look_steps, add_finds, add_loses, add_ready, add_skips, add_wins, back_ends, backs, clean_loses, clean_wins, cut_done, cut_late, cut_other, look_finds, look_late, look_other, rereads_late, skip_ends, skips}
+use Rattle.list_grown.proofs.Does.{Does, does, passes, steps, cut_ready, cut_again, mark_wins, mark_loses, rereads, look_passes, look_steps}
+use Rattle.list_grown.proofs.Does.{add_finds, add_loses, add_ready, add_skips, add_wins, back_ends, backs, clean_loses, clean_wins, cut_done}
+use Rattle.list_grown.proofs.Does.{cut_late, cut_other, look_finds, look_late, look_other, rereads_late, skip_ends, skips}
 use Rattle.list_grown.proofs.Advance.{begun, asking, Advances, moves, spares, takes, asks, Advanced, party_after}
 use Rattle.list_grown.proofs.Replies.{Missed, Told, cut_no, reread_no, look_no, said_by, move_reply, add_no}
 

@@ -61,8 +61,8 @@ late =
 
 pub record TooLate : Type 0 where
   pub answered : Answered late no
-  pub at_call_lem : has 5 (live_keys (at_call late)) ≡ true
-  pub at_answer_lem : has 5 (live_keys (at_answer late)) ≡ false
+  pub live_at_call : has 5 (live_keys (at_call late)) ≡ true
+  pub gone_at_answer : has 5 (live_keys (at_answer late)) ≡ false
 
 -- ---- runs in which an engine with one wrong move goes wrong
 
@@ -107,15 +107,15 @@ found_again =
     ∷ moves 0 ∷ moves 0 ∷ moves 0 ∷ moves 0 ∷ moves 0 ∷ moves 0 ∷ []
 
 pub record Traps : Type 0 where
-  pub over_removed_lem : Leaves over_removed (5 ∷ [])
+  pub over_removed_leaves : Leaves over_removed (5 ∷ [])
       (record { calls = 3; moves = 10; won = 3; lost = 0; adds = 2; marks = 1; ins = 2; outs = 1 })
-  pub past_removed_lem : Leaves past_removed (2 ∷ [])
+  pub past_removed_leaves : Leaves past_removed (2 ∷ [])
       (record { calls = 3; moves = 10; won = 3; lost = 0; adds = 2; marks = 1; ins = 2; outs = 1 })
   pub back_through : Leaves back_through_splice (1 ∷ [])
       (record { calls = 3; moves = 15; won = 3; lost = 1; adds = 2; marks = 1; ins = 2; outs = 1 })
-  pub read_again_lem : Leaves read_again (3 ∷ [])
+  pub read_again_leaves : Leaves read_again (3 ∷ [])
       (record { calls = 3; moves = 12; won = 3; lost = 1; adds = 2; marks = 1; ins = 2; outs = 1 })
-  pub found_again_lem : Leaves found_again (0 ∷ [])
+  pub found_again_leaves : Leaves found_again (0 ∷ [])
       (record { calls = 3; moves = 14; won = 4; lost = 1; adds = 2; marks = 1; ins = 2; outs = 1 })
   -- and then row 1 leads to the one key that is left, and that to row 2
   pub cleaned_up : let t = (grown (unset 16) 2 found_again).table in next_at t (next_at t 1) ≡ 2

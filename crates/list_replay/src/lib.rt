@@ -41,7 +41,8 @@ fn run_line(
 ) -> Ran
     ensures { (machine (after kind key next back) result.state
         ≡ (line_of plain_event order (machine (before_mut kind key next back) state) line).memory)
-        × (Puts out to (line_says plain_event order (machine (before_mut kind key next back) state) number line) result.to) }
+        × (Puts out to (line_says plain_event order (machine (before_mut kind key next back) state) number line)
+        result.to) }
 {
     let party = party_in(line);
     let before = state.party_at(party);

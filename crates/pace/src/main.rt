@@ -38,7 +38,8 @@ fn replays(text: &[u8], out: &mut [u8]) -> usize {
 
 // Reads until the room is full or the input ends, and answers how many bytes came.
 fn read_full(input: &mut impl Read, room: &mut [u8]) -> io::Result<usize>
-    ensures { ReadsAtMost result room.new }
+    ensures read { ReadsAtMost result room.new }
+    ensures kept { length room.new ≡ length room.old }
 {
     let mut done = 0;
     while done < room.len() {

@@ -24,7 +24,8 @@ fn out_room() -> [u8; 54952]
 
 // Reads until the room is full or the input ends, and answers how many bytes came.
 fn read_full(input: &mut impl Read, room: &mut [u8]) -> io::Result<usize>
-    ensures { ReadsAtMost result room.new }
+    ensures read { ReadsAtMost result room.new }
+    ensures kept { length room.new ≡ length room.old }
 {
     let mut done = 0;
     while done < room.len() {

@@ -21,7 +21,8 @@ use Rattle.list.specs.Engine.{set_up_of, call_of, move_of, list_of}
 use Rattle.probe_layout.specs.declared.Question.{Question}
 use Rattle.probe_layout.specs.Layout.{places_in, question_in, rooms_fit, table_into, state_in, fits}
 use Rattle.probe_layout.proofs.Fitting.{fit_of, rooms_fit_lem, table_read}
-use Rattle.probe_answer.specs.Probe.{Seen, unwritten, refusal_in, said_in, listed_in, done_shown, move_shown, list_shown, seen_by, seen_of, seen_bytes, probe_of}
+use Rattle.probe_answer.specs.Probe.{Seen, unwritten, refusal_in, said_in, listed_in, done_shown, move_shown, list_shown, seen_by, seen_of}
+use Rattle.probe_answer.specs.Probe.{seen_bytes, probe_of}
 
 -- ---- what an outcome comes to
 

@@ -20,7 +20,8 @@ use Rattle.list_moves.specs.Moves.{move_at}
 use Rattle.list_unchecked.specs.Unchecked.{Machine, machine, party_of, begun_of, unchecked_call, unchecked_move}
 use Rattle.list_form.specs.Form.{rows_in}
 use Rattle.list_fresh.specs.Fresh.{fresh_table}
-use Rattle.list.specs.Engine.{set_up_tests, set_up_of, call_tests, call_of, move_tests, move_of, accepting, chain_rises, live_keys, list_tests, places_with, list_of}
+use Rattle.list.specs.Engine.{set_up_tests, set_up_of, call_tests, call_of, move_tests, move_of, accepting, chain_rises, live_keys, list_tests}
+use Rattle.list.specs.Engine.{places_with, list_of}
 use Rattle.calls.specs.Calls.{call_named}
 use Rattle.list.proofs.Laws.{past_form, table_fits, past_set_up}
 use Rattle.probe_layout.specs.Bytes.{low, byte_at, two_at, four_at}

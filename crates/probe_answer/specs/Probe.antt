@@ -68,7 +68,8 @@ seen_by (suc (suc (suc more))) m party code key places = list_shown m (list_of m
 
 unfoldable pub seen_of : List ℕ → Seen
 seen_of bytes =
-    seen_by (what_in bytes) (machine_in bytes) (party_in bytes) (code_in bytes) (key_in bytes) (unwritten (places_in bytes))
+    seen_by (what_in bytes) (machine_in bytes) (party_in bytes) (code_in bytes) (key_in bytes)
+    (unwritten (places_in bytes))
 
 -- what the code has found, with the table and the places that it leaves
 abbrev pub seen_is : Table → List ℕ → Found → Seen

@@ -112,7 +112,8 @@ few count = leb count 4200
 unfoldable pub fits : List ℕ → Bool
 fits bytes =
     leb (what_in bytes) 3
-    && (few (places_in bytes) && few (kinds_in bytes) && few (keys_in bytes) && few (nexts_in bytes) && few (backs_in bytes))
+    && (few (places_in bytes) && few (kinds_in bytes) && few (keys_in bytes) && few (nexts_in bytes)
+    && few (backs_in bytes))
     && eqb (length bytes) (end_of bytes)
     && (ltb (four_at bytes 23) 256 && ltb (four_at bytes 27) 65536)
     && every (λ i. record_fits bytes (43 + 20 * i)) 16

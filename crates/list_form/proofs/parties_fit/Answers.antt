@@ -8,10 +8,8 @@ use Rattle.list_party.specs.declared.Party.{Party}
 use Rattle.list_party.specs.declared.State.{State}
 use Rattle.list_party.specs.State.{party_at}
 use Rattle.list_form.specs.Form.{party_fits, parties_fit}
+use Rattle.list_form.proofs.parties_fit.Invariants.{test}
 use Rattle.list_form.proofs.parties_fit.Goals as goal
-
-abbrev test : State → ℕ → Bool
-test state i = party_fits state.taken state.count i (party_at state i)
 
 told : (state : State) (i : ℕ) {q : Party} {found : Bool} → q ≡ party_at state i → found ≡ party_fits state.taken state.count i q → test state i ≡ found
 told state i is finds = ap (party_fits state.taken state.count i) (sym is) ∙ sym finds
