@@ -2,6 +2,8 @@
 -- Assumes nothing.
 use Rattle.logic.specs.Outcome.{OneOutcome}
 use Rattle.logic.proofs.Outcome.{by_equation}
+use Rattle.refusal.proofs.Told.{answers_differ}
+use Rattle.calls.proofs.CallTryFromU32.try_from.Reads as try_from
 use Rattle.calls.proofs.Call.named.Reads as named
 use Rattle.calls.proofs.Call.code.Reads as code
 use Rattle.calls.proofs.Call.is_add.Reads as is_add
@@ -9,6 +11,11 @@ use Rattle.calls.proofs.Call.is_remove.Reads as is_remove
 use Rattle.calls.proofs.Call.is_contains.Reads as is_contains
 use Rattle.calls.proofs.Tallies.none.Reads as none
 use Rattle.calls.proofs.Tallies.counted.Reads as counted
+
+-- what it is taken for, as `CallOfCode` tells it: by `answers_differ`
+pub try_from_fixed : OneOutcome try_from.Post (λ κs answer exit. answer)
+try_from_fixed κs given answer₁ answer₂ exit₁ exit₂ first second =
+    answers_differ _ _ (λ call. call) (λ x y same. same) _ _ (by_equation first second)
 
 pub named_fixed : OneOutcome named.Post (λ κs answer exit. answer)
 named_fixed κs given answer₁ answer₂ exit₁ exit₂ = by_equation

@@ -1,16 +1,12 @@
 -- A call is told by its code, what is said by its word, a reply by its reading.
 -- Assumes nothing.
 use mathlib.Core.Path.{◌≡◌, refl, ap, sym, ◌∙◌}
-use Prim.Native.Nat.{ℕ, zero, suc}
+use Prim.Native.Nat.{zero, suc}
 use native.Mathlib.Omega.{arith}
-use Rattle.refusal.specs.Number.{number_of}
-use Rattle.refusal.proofs.Laws.{not_both}
-use Rattle.refusal.proofs.Told.{numbers_differ}
+use Rattle.refusal.proofs.Told.{answers_differ}
 use Rattle.calls.specs.declared.Call.TheVariants.{Add, Remove, Contains}
 use Rattle.calls.specs.declared.Said.{Said}
 use Rattle.calls.specs.declared.Said.TheVariants.{Nothing, Yes, No}
-use Rattle.calls.specs.declared.Reply.TheVariants.{Heard, Refused}
-use Rattle.calls.specs.Calls.{call_named}
 use Rattle.calls.specs.Words.{Word, nothing, yes, no, word_of}
 use Rattle.calls.specs.Claims.{NamedByItsCode, CodeOfItsCall, WordsDiffer, RepliesDiffer}
 
@@ -24,12 +20,6 @@ code_of_its_call zero small = refl
 code_of_its_call (suc zero) small = refl
 code_of_its_call (suc (suc zero)) small = refl
 code_of_its_call (suc (suc (suc more))) small = absurd (omega arith)
-
--- every code past 1 names CONTAINS
-pub past_remove : (code : ℕ) → (code ≡ 0 → ⊥) → (code ≡ 1 → ⊥) → Contains ≡ call_named code
-past_remove zero a b = absurd (a refl)
-past_remove (suc zero) a b = absurd (b refl)
-past_remove (suc (suc more)) a b = refl
 
 said_by : Word → Said
 said_by nothing = Nothing
@@ -46,7 +36,4 @@ pub words_differ : WordsDiffer
 words_differ a b e = sym (back a) ∙ ap said_by e ∙ back b
 
 pub replies_differ : RepliesDiffer
-replies_differ (Heard a) (Heard b) e = let same : word_of a ≡ word_of b = cc in ap Heard (words_differ a b same)
-replies_differ (Heard a) (Refused b) e = absurd (not_both e)
-replies_differ (Refused a) (Heard b) e = absurd (not_both (sym e))
-replies_differ (Refused a) (Refused b) e = let same : number_of a ≡ number_of b = cc in ap Refused (numbers_differ a b same)
+replies_differ = answers_differ _ _ word_of words_differ

@@ -1,5 +1,7 @@
 -- Calls: the code and the name of each (document 01, "Refusal numbers" and "The schedule program").
-use Rattle.std.specs.Prelude.{List, ◌++◌, Bool, ℕ, zero, suc, eqb}
+use Rattle.std.specs.Prelude.{◌≡◌, List, ◌++◌, Bool, ℕ, zero, suc, eqb, ltb, Result}
+use Rattle.refusal.specs.declared.Refusal.{Refusal}
+use Rattle.refusal.specs.Answer.{accepted, passed, refusing, answer_is, answering}
 use Rattle.logic.specs.Quoted.{bytes}
 use Rattle.calls.specs.declared.Call.{Call}
 use Rattle.calls.specs.declared.Call.TheVariants.{Add, Remove, Contains}
@@ -16,6 +18,11 @@ abbrev pub call_named : ℕ → Call
 call_named zero = Add
 call_named (suc zero) = Remove
 call_named (suc (suc more)) = Contains
+
+-- what a code is taken for: its call, or 6 for one over 2
+abbrev pub CallOfCode : ℕ → Result Call Refusal → Type 0
+CallOfCode code taken =
+    answer_is (λ call. call) taken ≡ answering (refusing (ltb 2 code) 6 passed) (accepted (call_named code))
 
 -- the name of a call in schedules and their outputs
 abbrev pub name_of : Call → List ℕ

@@ -1,8 +1,8 @@
 -- What is proved of calls and answers: a promise made in the document's words determines the case of the enum.
-use Rattle.std.specs.Prelude.{◌≡◌, ℕ, ◌≤◌}
+use Rattle.std.specs.Prelude.{◌≡◌, ℕ, ◌≤◌, Result}
 use Rattle.calls.specs.declared.Call.{Call}
 use Rattle.calls.specs.declared.Said.{Said}
-use Rattle.calls.specs.declared.Reply.{Reply}
+use Rattle.refusal.specs.declared.Refusal.{Refusal}
 use Rattle.calls.specs.Calls.{call_named, code_of}
 use Rattle.calls.specs.Words.{word_of, reply_is}
 
@@ -19,4 +19,4 @@ abbrev pub WordsDiffer : Type 0
 WordsDiffer = (a b : Said) → word_of a ≡ word_of b → a ≡ b
 
 abbrev pub RepliesDiffer : Type 0
-RepliesDiffer = (a b : Reply) → reply_is a ≡ reply_is b → a ≡ b
+RepliesDiffer = (a b : Result Said Refusal) → reply_is a ≡ reply_is b → a ≡ b

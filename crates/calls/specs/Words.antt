@@ -1,10 +1,9 @@
 -- What a move says, in the document's words: each case of the code's enums with its value or its number.
-use Rattle.refusal.specs.Number.{number_of}
-use Rattle.refusal.specs.Answer.{Answer, accepted, refused}
+use Rattle.std.specs.Prelude.{Result}
+use Rattle.refusal.specs.declared.Refusal.{Refusal}
+use Rattle.refusal.specs.Answer.{Answer, answer_is}
 use Rattle.calls.specs.declared.Said.{Said}
 use Rattle.calls.specs.declared.Said.TheVariants.{Nothing, Yes, No}
-use Rattle.calls.specs.declared.Reply.{Reply}
-use Rattle.calls.specs.declared.Reply.TheVariants.{Heard, Refused}
 
 -- a call is answered yes or no; until then its moves say nothing
 pub data Word : Type 0 where
@@ -18,6 +17,5 @@ word_of Yes = yes
 word_of No = no
 
 -- the word, or the refusal's number
-abbrev pub reply_is : Reply → Answer Word
-reply_is (Heard said) = accepted (word_of said)
-reply_is (Refused why) = refused (number_of why)
+abbrev pub reply_is : Result Said Refusal → Answer Word
+reply_is reply = answer_is word_of reply

@@ -2,13 +2,13 @@
 #![tactic(auto)]
 
 ghost use Rattle.std.specs.Prelude.{◌≡◌};
-ghost use Rattle.calls.specs.Calls.{call_named, code_of, is_add, is_remove, is_contains};
+ghost use Rattle.calls.specs.Calls.{call_named, code_of, is_add, is_remove, is_contains, CallOfCode};
 ghost use Rattle.calls.specs.Tallies.{one_more, no_tallies, counted};
 
 use refusal::Refusal;
 
 // What a party is asked to do.
-#[derive(Clone, Copy)]
+#[derive(Clone, Copy, Debug, PartialEq, Eq)]
 pub enum Call {
     Add,
     Remove,
@@ -30,13 +30,6 @@ pub enum Said {
     No,
 }
 
-// What an engine answers to a call or a move: something said, or a refusal.
-#[derive(Clone, Copy)]
-pub enum Reply {
-    Heard(Said),
-    Refused(Refusal),
-}
-
 // What came of the access of a move.
 #[derive(Clone, Copy)]
 pub enum Access {
@@ -54,16 +47,28 @@ pub struct Tallies {
     pub lost: u32,
 }
 
+// The call of a code; any code over 2 names none and is refused.
+impl TryFrom<u32> for Call {
+    type Error = Refusal;
+
+    ghost try_from_gives = { CallOfCode };
+
+    fn try_from(code: u32) -> Result<Call, Refusal> {
+        match code {
+            0 => Ok(Call::Add),
+            1 => Ok(Call::Remove),
+            2 => Ok(Call::Contains),
+            _ => Err(Refusal::NoSuchCall),
+        }
+    }
+}
+
 impl Call {
     // The call of a code. Refuses nothing: a code over 2 gives CONTAINS here; the entry points refuse it (6) before.
     pub fn named(code: u32) -> Call
         ensures { result ≡ call_named code }
     {
-        match code {
-            0 => Call::Add,
-            1 => Call::Remove,
-            _ => Call::Contains,
-        }
+        Call::try_from(code).unwrap_or(Call::Contains)
     }
 
     // The code of a call.
@@ -80,19 +85,19 @@ impl Call {
     pub fn is_add(self) -> bool
         ensures { result ≡ is_add self }
     {
-        self.code() == 0
+        self == Call::Add
     }
 
     pub fn is_remove(self) -> bool
         ensures { result ≡ is_remove self }
     {
-        self.code() == 1
+        self == Call::Remove
     }
 
     pub fn is_contains(self) -> bool
         ensures { result ≡ is_contains self }
     {
-        self.code() == 2
+        self == Call::Contains
     }
 }
 
@@ -100,7 +105,7 @@ impl Call {
 fn one_more(tally: u32) -> u32
     ensures { result ≡ one_more 4294967295 tally }
 {
-    if tally < 4294967295 { tally + 1 } else { tally }
+    tally.saturating_add(1)
 }
 
 impl Tallies {
@@ -123,18 +128,17 @@ impl Tallies {
             Access::None => self,
             Access::Read => Tallies {
                 moves: one_more(self.moves),
-                won: self.won,
-                lost: self.lost,
+                ..self
             },
             Access::Won => Tallies {
                 moves: one_more(self.moves),
                 won: one_more(self.won),
-                lost: self.lost,
+                ..self
             },
             Access::Lost => Tallies {
                 moves: one_more(self.moves),
-                won: self.won,
                 lost: one_more(self.lost),
+                ..self
             },
         }
     }

@@ -1,9 +1,11 @@
--- A refusal is told by its number, a verdict by its reading.
+-- A refusal is told by its number, an answer by its reading.
 -- Assumes nothing.
 use mathlib.Core.Path.{◌≡◌, refl, ap, sym, ◌∙◌}
 use mathlib.Core.List.{List, [], ◌∷◌}
 use Prim.Native.Nat.{ℕ}
 use lib.ListN.{get_or}
+use Prim.{Unit, tt}
+use Rattle.std.specs.Prelude.{Result, Ok, Err}
 use Rattle.refusal.specs.declared.Refusal.{Refusal}
 use Rattle.refusal.specs.declared.Refusal.TheVariants.{
   BadColumns,
@@ -18,11 +20,9 @@ use Rattle.refusal.specs.declared.Refusal.TheVariants.{
   NoRoom,
   NoSuchOrder,
 }
-use Rattle.refusal.specs.declared.Verdict.{Verdict}
-use Rattle.refusal.specs.declared.Verdict.TheVariants.{Accepted, Refused}
 use Rattle.refusal.specs.Number.{number_of}
 use Rattle.refusal.specs.Answer.{Tests, verdict_is}
-use Rattle.refusal.specs.Claims.{NumbersDiffer, VerdictsDiffer}
+use Rattle.refusal.specs.Claims.{NumbersDiffer, AnswersDiffer, VerdictsDiffer}
 use Rattle.refusal.proofs.Laws.{not_both}
 
 -- the refusals in the order of their numbers, from 1
@@ -50,12 +50,15 @@ named_number NoSuchOrder = refl
 pub numbers_differ : NumbersDiffer
 numbers_differ a b e = sym (named_number a) ∙ ap named e ∙ named_number b
 
+pub answers_differ : AnswersDiffer
+answers_differ A B read told (Ok a) (Ok b) e = let same : read a ≡ read b = cc in ap Ok (told a b same)
+answers_differ A B read told (Ok a) (Err b) e = absurd (not_both e)
+answers_differ A B read told (Err a) (Ok b) e = absurd (not_both (sym e))
+answers_differ A B read told (Err a) (Err b) e = let n : number_of a ≡ number_of b = cc in ap Err (numbers_differ a b n)
+
 pub verdicts_differ : VerdictsDiffer
-verdicts_differ Accepted Accepted e = refl
-verdicts_differ Accepted (Refused b) e = absurd (not_both e)
-verdicts_differ (Refused a) Accepted e = absurd (not_both (sym e))
-verdicts_differ (Refused a) (Refused b) e = let n : number_of a ≡ number_of b = cc in ap Refused (numbers_differ a b n)
+verdicts_differ = answers_differ _ _ (λ found. tt) (λ x y same. refl)
 
 -- what the tests found, from the code's verdict and its contract
-pub tests_told : {found verdict : Verdict} {tests : Tests} → verdict_is found ≡ tests → found ≡ verdict → tests ≡ verdict_is verdict
+pub tests_told : {found verdict : Result (Unit {0}) Refusal} {tests : Tests} → verdict_is found ≡ tests → found ≡ verdict → tests ≡ verdict_is verdict
 tests_told meets is = sym meets ∙ ap verdict_is is

@@ -1,8 +1,7 @@
 -- Answers in the document's terms: a value, or a refusal's number alone (document 01, "Refusal numbers").
 use Prim.{Unit, tt}
-use Rattle.std.specs.Prelude.{Bool, true, false, ℕ}
-use Rattle.refusal.specs.declared.Verdict.{Verdict}
-use Rattle.refusal.specs.declared.Verdict.TheVariants.{Accepted, Refused}
+use Rattle.std.specs.Prelude.{Bool, true, false, ℕ, Result, Ok, Err}
+use Rattle.refusal.specs.declared.Refusal.{Refusal}
 use Rattle.refusal.specs.Number.{number_of}
 
 -- what an entry point answers: it accepts and gives a value, or it refuses and gives a number
@@ -40,7 +39,11 @@ abbrev pub leaving : {M A : Type 0} → Tests → (found : M) → Left M A → L
 leaving (accepted done) found changed = changed
 leaving (refused number) found changed = left found (refused number)
 
--- the code's verdict in the document's terms
-abbrev pub verdict_is : Verdict → Tests
-verdict_is Accepted = passed
-verdict_is (Refused why) = refused (number_of why)
+-- what the code answers in the document's terms: its value as it is read there, or the refusal's number
+abbrev pub answer_is : {A B : Type 0} → (read : A → B) → Result A Refusal → Answer B
+answer_is read (Ok value) = accepted (read value)
+answer_is read (Err why) = refused (number_of why)
+
+-- of tests alone, which have no value to give
+abbrev pub verdict_is : {A : Type 0} → Result A Refusal → Tests
+verdict_is verdict = answer_is (λ found. tt) verdict

@@ -1,11 +1,11 @@
-// The refusals of the engine by plain names, the number of each, and the verdict of an entry point's tests.
+// The refusals of the engine by plain names, and the number of each.
 #![tactic(auto)]
 
 ghost use Rattle.std.specs.Prelude.{◌≡◌};
 ghost use Rattle.refusal.specs.Number.{number_of};
 
-// One case for each row of the table of refusal numbers, in that order.
-#[derive(Clone, Copy)]
+// One case for each row of the table of refusal numbers, in that order. What refuses answers `Result<_, Refusal>`.
+#[derive(Clone, Copy, Debug, PartialEq, Eq)]
 pub enum Refusal {
     // 1: the columns differ in length, or are shorter than 4 rows or longer than 4,096.
     BadColumns,
@@ -50,11 +50,4 @@ impl Refusal {
             Refusal::NoSuchOrder => 11,
         }
     }
-}
-
-// What the tests of an entry point find: nothing, or the first refusal that applies.
-#[derive(Clone, Copy)]
-pub enum Verdict {
-    Accepted,
-    Refused(Refusal),
 }
