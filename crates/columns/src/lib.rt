@@ -1,36 +1,62 @@
 // Total reads and writes of one lent column: past the end a read gives 0 and a write does nothing.
 #![tactic(auto)]
 
-ghost use Rattle.std.specs.Prelude.{◌≡◌, length};
-ghost use Rattle.columns.specs.Column.{at, put, zeros};
+ghost use Rattle.std.specs.Prelude.{◌≡◌, length, get_or, set, replicate};
+ghost use Rattle.std.proofs.Common.{rules};
 
-// What stands at a row of a column of bytes.
-pub fn read_u8(column: &[u8], row: u16) -> u8
-    ensures { result ≡ at column.now row }
-{
-    let i = row as usize;
-    if i < column.len() { column[i] } else { 0 }
+// What a column holds at each row: numbers of one width, which are copied as they are.
+pub trait Entry: Copy {
+    ghost ZERO: { Self };
+
+    // What an unused row holds, and what is read past the end.
+    const ZERO: Self;
+
+    // A copy cannot fail, and is the number itself.
+    ghost copies: { (number : Self) → Self.is_infallible number };
+
+    ghost exactly: { (number copy : Self) → Self.is_clone number copy → copy ≡ number };
 }
 
-// What stands at a row of a column of 16-bit numbers.
-pub fn read_u16(column: &[u16], row: u16) -> u16
-    ensures { result ≡ at column.now row }
-{
-    let i = row as usize;
-    if i < column.len() { column[i] } else { 0 }
+impl Entry for u8 {
+    ghost ZERO = { 0 };
+
+    const ZERO: u8 = 0;
+
+    ghost copies = { Prim.search rules };
+
+    ghost exactly = { Prim.search rules };
 }
 
-// What stands at a row of a column of 32-bit numbers.
-pub fn read_u32(column: &[u32], row: u16) -> u32
-    ensures { result ≡ at column.now row }
-{
-    let i = row as usize;
-    if i < column.len() { column[i] } else { 0 }
+impl Entry for u16 {
+    ghost ZERO = { 0 };
+
+    const ZERO: u16 = 0;
+
+    ghost copies = { Prim.search rules };
+
+    ghost exactly = { Prim.search rules };
 }
 
-// Puts a value at a row of a column of bytes.
-pub fn write_u8(column: &mut [u8], row: u16, value: u8)
-    ensures { column.new ≡ put column.old row value }
+impl Entry for u32 {
+    ghost ZERO = { 0 };
+
+    const ZERO: u32 = 0;
+
+    ghost copies = { Prim.search rules };
+
+    ghost exactly = { Prim.search rules };
+}
+
+// What stands at a row of a column.
+pub fn read<T: Entry>(column: &[T], row: u16) -> T
+    ensures { result ≡ get_or column.now row T.ZERO }
+{
+    column.get(row as usize).copied().unwrap_or(T::ZERO)
+}
+
+// Puts a value at a row of a column.
+pub fn write<T: Entry>(column: &mut [T], row: u16, value: T)
+    ensures { column.new ≡ set column.old row value }
 {
     let i = row as usize;
     if i < column.len() {
@@ -38,55 +64,9 @@ pub fn write_u8(column: &mut [u8], row: u16, value: u8)
     }
 }
 
-// Puts a value at a row of a column of 16-bit numbers.
-pub fn write_u16(column: &mut [u16], row: u16, value: u16)
-    ensures { column.new ≡ put column.old row value }
+// Sets every row of a column to 0.
+pub fn clear<T: Entry>(column: &mut [T])
+    ensures { column.new ≡ replicate (length column.old) T.ZERO }
 {
-    let i = row as usize;
-    if i < column.len() {
-        column[i] = value;
-    }
-}
-
-// Puts a value at a row of a column of 32-bit numbers.
-pub fn write_u32(column: &mut [u32], row: u16, value: u32)
-    ensures { column.new ≡ put column.old row value }
-{
-    let i = row as usize;
-    if i < column.len() {
-        column[i] = value;
-    }
-}
-
-// Sets every row of a column of bytes to 0.
-pub fn clear_u8(column: &mut [u8])
-    ensures { column.new ≡ zeros (length column.old) }
-{
-    let mut row = 0;
-    while row < column.len() {
-        column[row] = 0;
-        row += 1;
-    }
-}
-
-// Sets every row of a column of 16-bit numbers to 0.
-pub fn clear_u16(column: &mut [u16])
-    ensures { column.new ≡ zeros (length column.old) }
-{
-    let mut row = 0;
-    while row < column.len() {
-        column[row] = 0;
-        row += 1;
-    }
-}
-
-// Sets every row of a column of 32-bit numbers to 0.
-pub fn clear_u32(column: &mut [u32])
-    ensures { column.new ≡ zeros (length column.old) }
-{
-    let mut row = 0;
-    while row < column.len() {
-        column[row] = 0;
-        row += 1;
-    }
+    column.fill(T::ZERO);
 }
