@@ -1,7 +1,7 @@
 -- The table: the four columns as lists, its reads and its writes (document 01, "Rows and parties").
-use Rattle.std.specs.Prelude.{List, Bool, ℕ, eqb}
-use Rattle.std.specs.Borrow.{Bor, MutBor}
-use denote.Triple.Both.{Both}
+use Rattle.std.specs.Prelude.{◌≡◌, List, Bool, ℕ, eqb}
+use Rattle.list_rows.specs.declared.Columns.{Columns}
+use Rattle.list_rows.specs.declared.ColumnsMut.{ColumnsMut}
 use Rattle.columns.specs.Column.{at, put}
 
 pub record Table : Type 0 where
@@ -13,24 +13,22 @@ pub record Table : Type 0 where
 abbrev pub tab : List ℕ → List ℕ → List ℕ → List ℕ → Table
 tab kind key next back = record { kind = kind; key = key; next = next; back = back }
 
--- ---- four lent columns as a table
+-- ---- the four lent columns as a table
 
--- a column in a contract that is lent to be read, by &
-abbrev pub Column : Type 0
-Column = Both (Bor (List ℕ)) (Bor (List ℕ))
+-- lent to be read, by &
+abbrev pub table_of : Columns → Table
+table_of columns = tab columns.kind.now columns.key.now columns.next.now columns.back.now
 
-abbrev pub before : (kind key next back : Column) → Table
-before kind key next back = tab kind.entry.now key.entry.now next.entry.now back.entry.now
+-- lent to be changed, by &mut
+abbrev pub table_in : ColumnsMut → Table
+table_in columns = tab columns.kind.now columns.key.now columns.next.now columns.back.now
 
--- a column that is lent to be changed, by &mut: as it came, and as it is left
-abbrev pub ColumnMut : Type 0
-ColumnMut = Both (MutBor (List ℕ)) (MutBor (List ℕ))
-
-abbrev pub before_mut : (kind key next back : ColumnMut) → Table
-before_mut kind key next back = tab kind.entry.now key.entry.now next.entry.now back.entry.now
-
-abbrev pub after : (kind key next back : ColumnMut) → Table
-after kind key next back = tab kind.exit.now key.exit.now next.exit.now back.exit.now
+-- still the columns that were lent, and no others: what is written in them is written for who lent them
+pub record SameColumns (before after : ColumnsMut) : Type 0 where
+  pub kind : after.kind.ghost_name ≡ before.kind.ghost_name
+  pub key : after.key.ghost_name ≡ before.key.ghost_name
+  pub next : after.next.ghost_name ≡ before.next.ghost_name
+  pub back : after.back.ghost_name ≡ before.back.ghost_name
 
 -- ---- the end rows by their fixed numbers
 

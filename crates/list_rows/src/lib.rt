@@ -1,15 +1,26 @@
-// Rows: the four end rows, the kinds, the order, and the writes that a call or a move makes in the four lent columns.
+// Rows: the four lent columns as one table, the four end rows, the kinds, the order, and the writes of a call or a move.
 #![tactic(auto)]
 
-ghost use Rattle.std.specs.Prelude.{◌≡◌, eqb, ltb};
-ghost use Rattle.columns.specs.Column.{at};
-ghost use Rattle.list_rows.specs.Table.{before_mut, after, with_row};
-ghost use Rattle.list_rows.specs.Order.{end_rank, rank_in, key_rank};
+ghost use Rattle.std.specs.Prelude.{◌≡◌};
+ghost use Rattle.list_rows.specs.Table.{
+  table_of,
+  table_in,
+  SameColumns,
+  kind_at,
+  key_at,
+  next_at,
+  back_at,
+  is_item,
+  is_splice,
+  link,
+  with_row,
+};
+ghost use Rattle.list_rows.specs.Order.{end_rank, rank_at, below, below_key, equals_key};
 ghost use Rattle.list_rows.specs.Writes.{written};
 
-use columns::{read_u8, read_u32, write_u8, write_u16, write_u32};
+use columns::{read, write};
 
-// The kinds of rows.
+// The kinds of rows, as they stand in the column of kinds. A lent column may hold any other byte too.
 pub const UNUSED: u8 = 0;
 
 pub const END: u8 = 1;
@@ -18,8 +29,43 @@ pub const ITEM: u8 = 2;
 
 pub const SPLICE: u8 = 3;
 
-// A row by its number.
+// The four columns lent to be read. They may have any lengths; past its end a column reads as 0.
 #[derive(Clone, Copy)]
+pub struct Columns<'a> {
+    pub kind: &'a [u8],
+    pub key: &'a [u32],
+    pub next: &'a [u16],
+    pub back: &'a [u16],
+}
+
+impl Columns<'_> {
+    pub fn kind_at(&self, row: u16) -> u8
+        ensures { result ≡ kind_at (table_of self.now) row }
+    {
+        read(self.kind, row)
+    }
+
+    pub fn key_at(&self, row: u16) -> u32
+        ensures { result ≡ key_at (table_of self.now) row }
+    {
+        read(self.key, row)
+    }
+
+    pub fn next_at(&self, row: u16) -> u16
+        ensures { result ≡ next_at (table_of self.now) row }
+    {
+        read(self.next, row)
+    }
+
+    pub fn back_at(&self, row: u16) -> u16
+        ensures { result ≡ back_at (table_of self.now) row }
+    {
+        read(self.back, row)
+    }
+}
+
+// A row by its number.
+#[derive(Clone, Copy, Debug, PartialEq, Eq)]
 pub struct Row(pub u16);
 
 impl Row {
@@ -32,65 +78,63 @@ impl Row {
 
     pub const TAIL_NXT: Row = Row(3);
 
-    // Whether the row is a splice.
-    pub fn is_splice(self, kind: &[u8]) -> bool
-        ensures { result ≡ eqb (at kind.now self.0) 3 }
+    // Whether the row is an item, removed or not.
+    pub fn is_item(self, columns: &Columns<'_>) -> bool
+        ensures { result ≡ is_item (table_of columns.now) self.0 }
     {
-        read_u8(kind, self.0) == SPLICE
+        columns.kind_at(self.0) == ITEM
+    }
+
+    // Whether the row is a splice.
+    pub fn is_splice(self, columns: &Columns<'_>) -> bool
+        ensures { result ≡ is_splice (table_of columns.now) self.0 }
+    {
+        columns.kind_at(self.0) == SPLICE
     }
 
     // The rank of a row that is neither splice nor item: by its number alone.
     fn end_rank(self) -> u64
         ensures { result ≡ end_rank self.0 }
     {
-        let row = self.0;
-        if row == Row::HEAD.0 {
-            return 1;
+        match self {
+            Row::HEAD => 1,
+            Row::HEAD_NXT => 2,
+            Row::TAIL => 4294967299,
+            _ => 4294967300,
         }
-        if row == Row::HEAD_NXT.0 {
-            return 2;
-        }
-        if row == Row::TAIL.0 {
-            return 4294967299;
-        }
-        4294967300
     }
 
     // Where the row stands in the order, as one number.
     #[tactic(auto, unfolding(crate::specs::Order::rank))]
-    fn rank(self, kind: &[u8], key: &[u32]) -> u64
-        ensures { result ≡ rank_in kind.now key.now self.0 }
+    fn rank(self, columns: &Columns<'_>) -> u64
+        ensures { result ≡ rank_at (table_of columns.now) self.0 }
     {
-        let k = read_u8(kind, self.0);
-        if k == SPLICE {
-            return 0;
+        match columns.kind_at(self.0) {
+            SPLICE => 0,
+            ITEM => 3 + u64::from(columns.key_at(self.0)),
+            _ => self.end_rank(),
         }
-        if k == ITEM {
-            return 3 + (read_u32(key, self.0) as u64);
-        }
-        self.end_rank()
     }
 
     // Whether the row stands before another.
-    pub fn below(self, kind: &[u8], key: &[u32], other: Row) -> bool
-        ensures { result ≡ ltb (rank_in kind.now key.now self.0)
-            (rank_in kind.now key.now other.0) }
+    pub fn below(self, columns: &Columns<'_>, other: Row) -> bool
+        ensures { result ≡ below (table_of columns.now) self.0 other.0 }
     {
-        self.rank(kind, key) < other.rank(kind, key)
+        self.rank(columns) < other.rank(columns)
     }
 
     // Whether the row stands before every item with the key.
-    pub fn below_key(self, kind: &[u8], key: &[u32], wanted: u32) -> bool
-        ensures { result ≡ ltb (rank_in kind.now key.now self.0) (key_rank wanted) }
+    pub fn below_key(self, columns: &Columns<'_>, wanted: u32) -> bool
+        ensures { result ≡ below_key (table_of columns.now) self.0 wanted }
     {
-        self.rank(kind, key) < 3 + (wanted as u64)
+        self.rank(columns) < 3 + u64::from(wanted)
     }
 
     // Whether the row is an item with the key.
-    pub fn equals_key(self, kind: &[u8], key: &[u32], wanted: u32) -> bool
-        ensures { result ≡ eqb (rank_in kind.now key.now self.0) (key_rank wanted) }
+    pub fn equals_key(self, columns: &Columns<'_>, wanted: u32) -> bool
+        ensures { result ≡ equals_key (table_of columns.now) self.0 wanted }
     {
-        self.rank(kind, key) == 3 + (wanted as u64)
+        self.rank(columns) == 3 + u64::from(wanted)
     }
 }
 
@@ -107,35 +151,49 @@ pub enum Write {
     Item(u16, u32),
 }
 
-// Writes all four entries of a row.
-fn write_row(
-    kind: &mut [u8],
-    key: &mut [u32],
-    next: &mut [u16],
-    back: &mut [u16],
-    row: u16,
-    new_kind: u8,
-    new_key: u32,
-    new_next: u16,
-    new_back: u16,
-)
-    ensures { after kind key next back
-        ≡ with_row (before_mut kind key next back) row new_kind new_key new_next new_back }
-{
-    write_u8(kind, row, new_kind);
-    write_u32(key, row, new_key);
-    write_u16(next, row, new_next);
-    write_u16(back, row, new_back);
+// The four columns lent to be changed.
+#[derive(Drop)]
+pub struct ColumnsMut<'a> {
+    pub kind: &'a mut [u8],
+    pub key: &'a mut [u32],
+    pub next: &'a mut [u16],
+    pub back: &'a mut [u16],
 }
 
-// Makes a write. Nothing is tested or refused: past the end of a column nothing is written.
-pub fn apply(kind: &mut [u8], key: &mut [u32], next: &mut [u16], back: &mut [u16], what: Write)
-    ensures { after kind key next back ≡ written what (before_mut kind key next back) }
-{
-    match what {
-        Write::Untouched => {}
-        Write::Link(row, to) => write_u16(next, row, to),
-        Write::Splice(row, to, from) => write_row(kind, key, next, back, row, SPLICE, 0, to, from),
-        Write::Item(row, wanted) => write_row(kind, key, next, back, row, ITEM, wanted, 0, 0),
+impl ColumnsMut<'_> {
+    // The same columns, lent on to be read.
+    pub fn view(&self) -> Columns<'_>
+        ensures { table_of result ≡ table_in self.now }
+    {
+        Columns {
+            kind: self.kind,
+            key: self.key,
+            next: self.next,
+            back: self.back,
+        }
+    }
+
+    // Writes all four entries of a row.
+    fn write_row(&mut self, row: u16, kind: u8, key: u32, next: u16, back: u16)
+        ensures written { table_in self.new ≡ with_row (table_in self.old) row kind key next back }
+        ensures lent { SameColumns self.old self.new }
+    {
+        write(self.kind, row, kind);
+        write(self.key, row, key);
+        write(self.next, row, next);
+        write(self.back, row, back);
+    }
+
+    // Makes a write. Nothing is tested or refused: past the end of a column nothing is written.
+    pub fn apply(&mut self, what: Write)
+        ensures written { table_in self.new ≡ written what (table_in self.old) }
+        ensures lent { SameColumns self.old self.new }
+    {
+        match what {
+            Write::Untouched => {}
+            Write::Link(row, to) => write(self.next, row, to),
+            Write::Splice(row, to, from) => self.write_row(row, SPLICE, 0, to, from),
+            Write::Item(row, wanted) => self.write_row(row, ITEM, wanted, 0, 0),
+        }
     }
 }
