@@ -11,9 +11,9 @@ use Rattle.list_party.proofs.Party.goes_to.Reads as goes_to
 use Rattle.list_party.proofs.one_taken.Reads as one_taken
 use Rattle.list_party.proofs.State.resting.Reads as resting
 use Rattle.list_party.proofs.State.party_at.Reads as party_at
-use Rattle.list_party.proofs.State.with_party.Reads as with_party
-use Rattle.list_party.proofs.State.with_taken.Reads as with_taken
-use Rattle.list_party.proofs.State.tallied.Reads as tallied
+use Rattle.list_party.proofs.State.put_party.Reads as put_party
+use Rattle.list_party.proofs.State.put_taken.Reads as put_taken
+use Rattle.list_party.proofs.State.tally.Reads as tally
 
 pub is_idle_fixed : OneOutcome is_idle.Post (λ κs answer exit. answer)
 is_idle_fixed κs given answer₁ answer₂ exit₁ exit₂ = by_equation
@@ -42,11 +42,11 @@ resting_fixed κs given answer₁ answer₂ exit₁ exit₂ = by_equation
 pub party_at_fixed : OneOutcome party_at.Post (λ κs answer exit. answer)
 party_at_fixed κs given answer₁ answer₂ exit₁ exit₂ = by_equation
 
-pub with_party_fixed : OneOutcome with_party.Post (λ κs answer exit. answer)
-with_party_fixed κs given answer₁ answer₂ exit₁ exit₂ = by_equation
+pub put_party_fixed : OneOutcome put_party.Post (λ κs answer exit. exit.0.now)
+put_party_fixed κs given answer₁ answer₂ exit₁ exit₂ = by_equation
 
-pub with_taken_fixed : OneOutcome with_taken.Post (λ κs answer exit. answer)
-with_taken_fixed κs given answer₁ answer₂ exit₁ exit₂ = by_equation
+pub put_taken_fixed : OneOutcome put_taken.Post (λ κs answer exit. exit.0.now)
+put_taken_fixed κs given answer₁ answer₂ exit₁ exit₂ = by_equation
 
-pub tallied_fixed : OneOutcome tallied.Post (λ κs answer exit. answer)
-tallied_fixed κs given answer₁ answer₂ exit₁ exit₂ = by_equation
+pub tally_fixed : OneOutcome tally.Post (λ κs answer exit. exit.0.now)
+tally_fixed κs given answer₁ answer₂ exit₁ exit₂ = by_equation

@@ -61,22 +61,23 @@ pub struct State {
     pub tallies: Tallies,
 }
 
+impl Values {
+    // Nothing kept: a place names what it keeps, and the rest is from here.
+    pub const NONE: Values = Values {
+        p: 0,
+        n: 0,
+        c: 0,
+        s: 0,
+        r: 0,
+    };
+}
+
 impl Place {
     // Whether a party at this place has no call.
     pub fn is_idle(self) -> bool
         ensures { result ≡ is_idle self }
     {
-        match self {
-            Place::Idle => true,
-            Place::Walk(_, _) => false,
-            Place::Skip(_, _) => false,
-            Place::AddSwap(_, _) => false,
-            Place::Mark(_, _) => false,
-            Place::Reread(_, _) => false,
-            Place::Clean(_, _) => false,
-            Place::Back(_, _) => false,
-            Place::Look(_, _) => false,
-        }
+        matches!(self, Place::Idle)
     }
 
     // The call and the key that a place carries. An idle party has neither, and is never answered.
@@ -88,14 +89,14 @@ impl Place {
                 call: Call::Contains,
                 key: 0,
             },
-            Place::Walk(call, key) => Asked { call, key },
-            Place::Skip(call, key) => Asked { call, key },
-            Place::AddSwap(call, key) => Asked { call, key },
-            Place::Mark(call, key) => Asked { call, key },
-            Place::Reread(call, key) => Asked { call, key },
-            Place::Clean(call, key) => Asked { call, key },
-            Place::Back(call, key) => Asked { call, key },
-            Place::Look(call, key) => Asked { call, key },
+            Place::Walk(call, key)
+            | Place::Skip(call, key)
+            | Place::AddSwap(call, key)
+            | Place::Mark(call, key)
+            | Place::Reread(call, key)
+            | Place::Clean(call, key)
+            | Place::Back(call, key)
+            | Place::Look(call, key) => Asked { call, key },
         }
     }
 }
@@ -130,14 +131,9 @@ impl Party {
         ensures { result ≡ idling self }
     {
         Party {
-            place: Place::Idle,
-            p: 0,
-            n: 0,
-            c: 0,
-            s: 0,
-            r: 0,
             own: self.spare(),
             unpublished: self.unpublished,
+            ..Party::blank()
         }
     }
 
@@ -145,16 +141,9 @@ impl Party {
     pub fn published(self) -> Party
         ensures { result ≡ published self }
     {
-        let place = self.place;
         Party {
-            place,
-            p: self.p,
-            n: self.n,
-            c: self.c,
-            s: self.s,
-            r: self.r,
-            own: self.own,
             unpublished: false,
+            ..self
         }
     }
 
@@ -169,8 +158,7 @@ impl Party {
             c: values.c,
             s: values.s,
             r: values.r,
-            own: self.own,
-            unpublished: self.unpublished,
+            ..self
         }
     }
 }
@@ -179,20 +167,18 @@ impl Party {
 pub fn one_taken(taken: u16) -> u16
     ensures { result ≡ one_more 65535 taken }
 {
-    if taken < 65535 { taken + 1 } else { taken }
+    taken.saturating_add(1)
 }
 
-// Nor does one of these.
+// Nor does one of these. A state is changed where it stands.
 impl State {
     // So many parties at rest and so many rows taken, nothing counted yet. Of no party and no row: what a program has
     // before its set-up.
     pub fn resting(parties: u8, taken: u16) -> State
         ensures { result ≡ resting_state parties taken }
     {
-        let none = Party::blank();
-        let table = [none; 16];
         State {
-            parties: table,
+            parties: [Party::blank(); 16],
             count: parties,
             taken,
             tallies: Tallies::none(),
@@ -200,46 +186,36 @@ impl State {
     }
 
     // The record of a party; past the table, a blank one.
-    pub fn party_at(self, number: u32) -> Party
-        ensures { result ≡ party_at self number }
+    pub fn party_at(&self, number: u32) -> Party
+        ensures { result ≡ party_at self.now number }
+    {
+        self.parties
+            .get(number as usize)
+            .copied()
+            .unwrap_or(Party::blank())
+    }
+
+    // Changes one party record; past the table, none.
+    pub fn put_party(&mut self, number: u32, party: Party)
+        ensures { self.new ≡ with_party self.old number party }
     {
         let i = number as usize;
-        if i < 16 {
-            return self.parties[i];
+        if i < self.parties.len() {
+            self.parties[i] = party;
         }
-        Party::blank()
     }
 
-    // The state with one party record changed; past the table, the state as it was.
-    pub fn with_party(self, number: u32, party: Party) -> State
-        ensures { result ≡ with_party self number party }
+    // So many rows are taken now.
+    pub fn put_taken(&mut self, taken: u16)
+        ensures { self.new ≡ with_taken self.old taken }
     {
-        let i = number as usize;
-        let mut after = self;
-        if i < 16 {
-            after.parties[i] = party;
-            return after;
-        }
-        after
+        self.taken = taken;
     }
 
-    // The state with a number of rows taken.
-    pub fn with_taken(self, taken: u16) -> State
-        ensures { result ≡ with_taken self taken }
+    // Counts an access.
+    pub fn tally(&mut self, access: Access)
+        ensures { self.new ≡ tallied access self.old }
     {
-        let mut after = self;
-        after.taken = taken;
-        after
-    }
-
-    // The state with an access counted.
-    pub fn tallied(self, access: Access) -> State
-        ensures { result ≡ tallied access self }
-    {
-        let mut after = self;
-        let tallies = self.tallies;
-        let more = tallies.counted(access);
-        after.tallies = more;
-        after
+        self.tallies = self.tallies.counted(access);
     }
 }
