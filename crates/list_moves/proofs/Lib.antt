@@ -1,3 +1,2 @@
--- The laws of the moves, case by case, and that the contract leaves no choice.
-pub mod Laws
+-- That the contract leaves no choice.
 pub mod Determined

@@ -2,7 +2,7 @@
 #![tactic(auto)]
 
 ghost use Rattle.std.specs.Prelude.{◌≡◌};
-ghost use Rattle.list_rows.specs.Table.{before};
+ghost use Rattle.list_rows.specs.Table.{table_of};
 ghost use Rattle.list_moves.specs.Moves.{
   goes_on,
   readies,
@@ -28,9 +28,8 @@ ghost use Rattle.list_moves.specs.Moves.{
 };
 
 use calls::{Access, Call, Said};
-use columns::read_u16;
 use list_party::{Party, Place, Values};
-use list_rows::{Row, Write};
+use list_rows::{Columns, Row, Write};
 
 // What a move comes to: the party after it, what is said, what came of the access, what is written.
 #[derive(Clone, Copy)]
@@ -66,10 +65,8 @@ fn readies(party: Party, write: Write) -> Moved
     ensures { result ≡ readies party write }
 {
     Moved {
-        party,
-        said: Said::Nothing,
-        access: Access::Read,
         write,
+        ..goes_on(party)
     }
 }
 
@@ -78,27 +75,16 @@ fn answers(party: Party, answer: Said) -> Moved
     ensures { result ≡ answers party answer }
 {
     Moved {
-        party: party.idling(),
         said: answer,
-        access: Access::Read,
-        write: Write::Untouched,
+        ..goes_on(party.idling())
     }
 }
 
 // A swap: won if the next still holds the expected row, else lost, and then no row changes.
-fn try_swap(
-    kind: &[u8],
-    key: &[u32],
-    next: &[u16],
-    back: &[u16],
-    what: Swap,
-    won: Party,
-    said: Said,
-    lost: Party,
-) -> Moved
-    ensures { result ≡ swap_of (before kind key next back) what won said lost }
+fn try_swap(columns: &Columns<'_>, what: Swap, won: Party, said: Said, lost: Party) -> Moved
+    ensures { result ≡ swap_of (table_of columns.now) what won said lost }
 {
-    if read_u16(next, what.row) == what.from {
+    if columns.next_at(what.row) == what.from {
         return Moved {
             party: won,
             said,
@@ -122,9 +108,7 @@ fn prepare(party: Party, call: Call, wanted: u32) -> Moved
     let kept = Values {
         p: party.p,
         n: party.n,
-        c: 0,
-        s: 0,
-        r: 0,
+        ..Values::NONE
     };
     let link = Write::Link(party.own, party.c);
     readies(party.goes_to(Place::AddSwap(call, wanted), kept), link)
@@ -132,26 +116,18 @@ fn prepare(party: Party, call: Call, wanted: u32) -> Moved
 
 // WALK below the key: past a removed row c moves alone, else p and n come along.
 #[tactic(auto, unfolding(crate::specs::Moves::onward_of))]
-fn onward(
-    kind: &[u8],
-    key: &[u32],
-    next: &[u16],
-    back: &[u16],
-    party: Party,
-    call: Call,
-    wanted: u32,
-) -> Moved
-    ensures { result ≡ onward_of (before kind key next back) party call wanted }
+fn onward(columns: &Columns<'_>, party: Party, call: Call, wanted: u32) -> Moved
+    ensures { result ≡ onward_of (table_of columns.now) party call wanted }
 {
-    let s = read_u16(next, party.c);
-    if Row(s).is_splice(kind) {
-        let beyond = read_u16(next, s);
+    let s = columns.next_at(party.c);
+    if Row(s).is_splice(columns) {
+        let beyond = columns.next_at(s);
         let past = Values {
             p: party.p,
             n: party.n,
             c: beyond,
-            s: 0,
             r: party.r,
+            ..Values::NONE
         };
         return goes_on(party.goes_to(Place::Walk(call, wanted), past));
     }
@@ -159,37 +135,29 @@ fn onward(
         p: party.c,
         n: s,
         c: s,
-        s: 0,
         r: party.r,
+        ..Values::NONE
     };
     goes_on(party.goes_to(Place::Walk(call, wanted), on))
 }
 
 // An ADD that has landed.
 #[tactic(auto, unfolding(crate::specs::Moves::landed_add_of))]
-fn landed_add(
-    kind: &[u8],
-    key: &[u32],
-    next: &[u16],
-    back: &[u16],
-    party: Party,
-    wanted: u32,
-) -> Moved
-    ensures { result ≡ landed_add_of (before kind key next back) party wanted }
+fn landed_add(columns: &Columns<'_>, party: Party, wanted: u32) -> Moved
+    ensures { result ≡ landed_add_of (table_of columns.now) party wanted }
 {
-    let s = read_u16(next, party.c);
-    if Row(s).is_splice(kind) {
-        let beyond = read_u16(next, s);
+    let s = columns.next_at(party.c);
+    if Row(s).is_splice(columns) {
+        let beyond = columns.next_at(s);
         let past = Values {
             p: party.p,
             n: party.n,
             c: beyond,
-            s: 0,
-            r: 0,
+            ..Values::NONE
         };
         return goes_on(party.goes_to(Place::Skip(Call::Add, wanted), past));
     }
-    if Row(party.c).equals_key(kind, key, wanted) {
+    if Row(party.c).equals_key(columns, wanted) {
         return answers(party, Said::No);
     }
     prepare(party, Call::Add, wanted)
@@ -197,27 +165,20 @@ fn landed_add(
 
 // A REMOVE that is not yet marked has landed.
 #[tactic(auto, unfolding(crate::specs::Moves::landed_unmarked_of))]
-fn landed_unmarked(
-    kind: &[u8],
-    key: &[u32],
-    next: &[u16],
-    back: &[u16],
-    party: Party,
-    wanted: u32,
-) -> Moved
-    ensures { result ≡ landed_unmarked_of (before kind key next back) party wanted }
+fn landed_unmarked(columns: &Columns<'_>, party: Party, wanted: u32) -> Moved
+    ensures { result ≡ landed_unmarked_of (table_of columns.now) party wanted }
 {
-    let s = read_u16(next, party.c);
-    let differs = !Row(party.c).equals_key(kind, key, wanted);
-    if differs | Row(s).is_splice(kind) {
+    let s = columns.next_at(party.c);
+    let differs = !Row(party.c).equals_key(columns, wanted);
+    if differs | Row(s).is_splice(columns) {
         return answers(party, Said::No);
     }
     let kept = Values {
         p: party.p,
         n: party.n,
         c: party.c,
-        s: s,
-        r: 0,
+        s,
+        ..Values::NONE
     };
     let splice = Write::Splice(party.own, s, party.p);
     readies(
@@ -228,63 +189,41 @@ fn landed_unmarked(
 
 // A REMOVE that is already marked has landed: where its splice is gone somebody has cleaned up.
 #[tactic(auto, unfolding(crate::specs::Moves::landed_marked_of))]
-fn landed_marked(
-    kind: &[u8],
-    key: &[u32],
-    next: &[u16],
-    back: &[u16],
-    party: Party,
-    wanted: u32,
-) -> Moved
-    ensures { result ≡ landed_marked_of (before kind key next back) party wanted }
+fn landed_marked(columns: &Columns<'_>, party: Party, wanted: u32) -> Moved
+    ensures { result ≡ landed_marked_of (table_of columns.now) party wanted }
 {
-    let s = read_u16(next, party.c);
+    let s = columns.next_at(party.c);
     if s != party.own {
         return answers(party, Said::Yes);
     }
     let kept = Values {
         p: party.p,
         n: party.n,
-        c: 0,
-        s: 0,
         r: party.r,
+        ..Values::NONE
     };
     goes_on(party.goes_to(Place::Clean(Call::Remove, wanted), kept))
 }
 
 // A REMOVE that has landed; it is marked if its own row is published.
 #[tactic(auto, unfolding(crate::specs::Moves::landed_remove_of))]
-fn landed_remove(
-    kind: &[u8],
-    key: &[u32],
-    next: &[u16],
-    back: &[u16],
-    party: Party,
-    wanted: u32,
-) -> Moved
-    ensures { result ≡ landed_remove_of (before kind key next back) party wanted }
+fn landed_remove(columns: &Columns<'_>, party: Party, wanted: u32) -> Moved
+    ensures { result ≡ landed_remove_of (table_of columns.now) party wanted }
 {
     if party.unpublished {
-        return landed_unmarked(kind, key, next, back, party, wanted);
+        return landed_unmarked(columns, party, wanted);
     }
-    landed_marked(kind, key, next, back, party, wanted)
+    landed_marked(columns, party, wanted)
 }
 
 // A CONTAINS that has landed.
 #[tactic(auto, unfolding(crate::specs::Moves::landed_contains_of))]
-fn landed_contains(
-    kind: &[u8],
-    key: &[u32],
-    next: &[u16],
-    back: &[u16],
-    party: Party,
-    wanted: u32,
-) -> Moved
-    ensures { result ≡ landed_contains_of (before kind key next back) party wanted }
+fn landed_contains(columns: &Columns<'_>, party: Party, wanted: u32) -> Moved
+    ensures { result ≡ landed_contains_of (table_of columns.now) party wanted }
 {
-    let s = read_u16(next, party.c);
-    let equal = Row(party.c).equals_key(kind, key, wanted);
-    if equal & !Row(s).is_splice(kind) {
+    let s = columns.next_at(party.c);
+    let equal = Row(party.c).equals_key(columns, wanted);
+    if equal & !Row(s).is_splice(columns) {
         return answers(party, Said::Yes);
     }
     answers(party, Said::No)
@@ -292,49 +231,32 @@ fn landed_contains(
 
 // WALK: one row on while c is below the key; else c has landed, and the call says what that means.
 #[tactic(auto, unfolding(crate::specs::Moves::walk_of))]
-fn walk(
-    kind: &[u8],
-    key: &[u32],
-    next: &[u16],
-    back: &[u16],
-    party: Party,
-    call: Call,
-    wanted: u32,
-) -> Moved
-    ensures { result ≡ walk_of (before kind key next back) party call wanted }
+fn walk(columns: &Columns<'_>, party: Party, call: Call, wanted: u32) -> Moved
+    ensures { result ≡ walk_of (table_of columns.now) party call wanted }
 {
-    if Row(party.c).below_key(kind, key, wanted) {
-        return onward(kind, key, next, back, party, call, wanted);
+    if Row(party.c).below_key(columns, wanted) {
+        return onward(columns, party, call, wanted);
     }
     match call {
-        Call::Add => landed_add(kind, key, next, back, party, wanted),
-        Call::Remove => landed_remove(kind, key, next, back, party, wanted),
-        Call::Contains => landed_contains(kind, key, next, back, party, wanted),
+        Call::Add => landed_add(columns, party, wanted),
+        Call::Remove => landed_remove(columns, party, wanted),
+        Call::Contains => landed_contains(columns, party, wanted),
     }
 }
 
 // SKIP: past removed rows, without another look at the key.
 #[tactic(auto, unfolding(crate::specs::Moves::skip_of))]
-fn skip(
-    kind: &[u8],
-    key: &[u32],
-    next: &[u16],
-    back: &[u16],
-    party: Party,
-    call: Call,
-    wanted: u32,
-) -> Moved
-    ensures { result ≡ skip_of (before kind key next back) party call wanted }
+fn skip(columns: &Columns<'_>, party: Party, call: Call, wanted: u32) -> Moved
+    ensures { result ≡ skip_of (table_of columns.now) party call wanted }
 {
-    let s = read_u16(next, party.c);
-    if Row(s).is_splice(kind) {
-        let beyond = read_u16(next, s);
+    let s = columns.next_at(party.c);
+    if Row(s).is_splice(columns) {
+        let beyond = columns.next_at(s);
         let past = Values {
             p: party.p,
             n: party.n,
             c: beyond,
-            s: 0,
-            r: 0,
+            ..Values::NONE
         };
         return goes_on(party.goes_to(Place::Skip(call, wanted), past));
     }
@@ -343,16 +265,8 @@ fn skip(
 
 // ADDSWAP: the own row goes in behind p, unless something else than n stands there by now.
 #[tactic(auto, unfolding(crate::specs::Moves::add_swap_of))]
-fn add_swap(
-    kind: &[u8],
-    key: &[u32],
-    next: &[u16],
-    back: &[u16],
-    party: Party,
-    call: Call,
-    wanted: u32,
-) -> Moved
-    ensures { result ≡ add_swap_of (before kind key next back) party call wanted }
+fn add_swap(columns: &Columns<'_>, party: Party, call: Call, wanted: u32) -> Moved
+    ensures { result ≡ add_swap_of (table_of columns.now) party call wanted }
 {
     let what = Swap {
         row: party.p,
@@ -361,28 +275,18 @@ fn add_swap(
     };
     let kept = Values {
         p: party.p,
-        n: 0,
-        c: 0,
-        s: 0,
         r: party.r,
+        ..Values::NONE
     };
     let won = party.published().idling();
     let lost = party.goes_to(Place::Back(call, wanted), kept);
-    try_swap(kind, key, next, back, what, won, Said::Yes, lost)
+    try_swap(columns, what, won, Said::Yes, lost)
 }
 
 // MARK: the own splice goes in behind c, which removes c, unless something else stands there by now.
 #[tactic(auto, unfolding(crate::specs::Moves::mark_of))]
-fn mark(
-    kind: &[u8],
-    key: &[u32],
-    next: &[u16],
-    back: &[u16],
-    party: Party,
-    call: Call,
-    wanted: u32,
-) -> Moved
-    ensures { result ≡ mark_of (before kind key next back) party call wanted }
+fn mark(columns: &Columns<'_>, party: Party, call: Call, wanted: u32) -> Moved
+    ensures { result ≡ mark_of (table_of columns.now) party call wanted }
 {
     let what = Swap {
         row: party.c,
@@ -392,45 +296,35 @@ fn mark(
     let then = Values {
         p: party.p,
         n: party.n,
-        c: 0,
-        s: 0,
         r: party.s,
+        ..Values::NONE
     };
     let kept = Values {
         p: party.p,
         n: party.n,
         c: party.c,
-        s: 0,
-        r: 0,
+        ..Values::NONE
     };
     let won = party.published().goes_to(Place::Clean(call, wanted), then);
     let lost = party.goes_to(Place::Reread(call, wanted), kept);
-    try_swap(kind, key, next, back, what, won, Said::Nothing, lost)
+    try_swap(columns, what, won, Said::Nothing, lost)
 }
 
 // REREAD: a splice behind c means that another party was first; else the own splice is led to what stands there now.
 #[tactic(auto, unfolding(crate::specs::Moves::reread_of))]
-fn reread(
-    kind: &[u8],
-    key: &[u32],
-    next: &[u16],
-    back: &[u16],
-    party: Party,
-    call: Call,
-    wanted: u32,
-) -> Moved
-    ensures { result ≡ reread_of (before kind key next back) party call wanted }
+fn reread(columns: &Columns<'_>, party: Party, call: Call, wanted: u32) -> Moved
+    ensures { result ≡ reread_of (table_of columns.now) party call wanted }
 {
-    let s = read_u16(next, party.c);
-    if Row(s).is_splice(kind) {
+    let s = columns.next_at(party.c);
+    if Row(s).is_splice(columns) {
         return answers(party, Said::No);
     }
     let kept = Values {
         p: party.p,
         n: party.n,
         c: party.c,
-        s: s,
-        r: 0,
+        s,
+        ..Values::NONE
     };
     let link = Write::Link(party.own, s);
     readies(party.goes_to(Place::Mark(call, wanted), kept), link)
@@ -438,16 +332,8 @@ fn reread(
 
 // CLEAN: p is led past the removed rows, unless something else stands behind p by now.
 #[tactic(auto, unfolding(crate::specs::Moves::clean_of))]
-fn clean(
-    kind: &[u8],
-    key: &[u32],
-    next: &[u16],
-    back: &[u16],
-    party: Party,
-    call: Call,
-    wanted: u32,
-) -> Moved
-    ensures { result ≡ clean_of (before kind key next back) party call wanted }
+fn clean(columns: &Columns<'_>, party: Party, call: Call, wanted: u32) -> Moved
+    ensures { result ≡ clean_of (table_of columns.now) party call wanted }
 {
     let what = Swap {
         row: party.p,
@@ -456,107 +342,73 @@ fn clean(
     };
     let kept = Values {
         p: party.p,
-        n: 0,
-        c: 0,
-        s: 0,
         r: party.r,
+        ..Values::NONE
     };
     let lost = party.goes_to(Place::Back(call, wanted), kept);
-    try_swap(kind, key, next, back, what, party.idling(), Said::Yes, lost)
+    try_swap(columns, what, party.idling(), Said::Yes, lost)
 }
 
 // BACK: from a removed p to the row that its splice names, and stay; from any other p the walk starts again.
 #[tactic(auto, unfolding(crate::specs::Moves::back_of))]
-fn go_back(
-    kind: &[u8],
-    key: &[u32],
-    next: &[u16],
-    back: &[u16],
-    party: Party,
-    call: Call,
-    wanted: u32,
-) -> Moved
-    ensures { result ≡ back_of (before kind key next back) party call wanted }
+fn go_back(columns: &Columns<'_>, party: Party, call: Call, wanted: u32) -> Moved
+    ensures { result ≡ back_of (table_of columns.now) party call wanted }
 {
-    let n = read_u16(next, party.p);
-    if Row(n).is_splice(kind) {
-        let earlier = read_u16(back, n);
+    let n = columns.next_at(party.p);
+    if Row(n).is_splice(columns) {
+        let earlier = columns.back_at(n);
         let kept = Values {
             p: earlier,
-            n: 0,
-            c: 0,
-            s: 0,
             r: party.r,
+            ..Values::NONE
         };
         return goes_on(party.goes_to(Place::Back(call, wanted), kept));
     }
     let again = Values {
         p: party.p,
-        n: n,
+        n,
         c: n,
-        s: 0,
         r: party.r,
+        ..Values::NONE
     };
     goes_on(party.goes_to(Place::Walk(call, wanted), again))
 }
 
 // LOOK below the key: one row on, through a splice.
 #[tactic(auto, unfolding(crate::specs::Moves::look_on_of))]
-fn look_on(
-    kind: &[u8],
-    key: &[u32],
-    next: &[u16],
-    back: &[u16],
-    party: Party,
-    call: Call,
-    wanted: u32,
-) -> Moved
-    ensures { result ≡ look_on_of (before kind key next back) party call wanted }
+fn look_on(columns: &Columns<'_>, party: Party, call: Call, wanted: u32) -> Moved
+    ensures { result ≡ look_on_of (table_of columns.now) party call wanted }
 {
-    let s = read_u16(next, party.c);
-    if Row(s).is_splice(kind) {
-        let beyond = read_u16(next, s);
+    let s = columns.next_at(party.c);
+    if Row(s).is_splice(columns) {
+        let beyond = columns.next_at(s);
         let past = Values {
-            p: 0,
-            n: 0,
             c: beyond,
-            s: 0,
-            r: 0,
+            ..Values::NONE
         };
         return goes_on(party.goes_to(Place::Look(call, wanted), past));
     }
     let on = Values {
-        p: 0,
-        n: 0,
         c: s,
-        s: 0,
-        r: 0,
+        ..Values::NONE
     };
     goes_on(party.goes_to(Place::Look(call, wanted), on))
 }
 
 // LOOK: on while c is below the key; else c has landed.
 #[tactic(auto, unfolding(crate::specs::Moves::look_of))]
-fn look(
-    kind: &[u8],
-    key: &[u32],
-    next: &[u16],
-    back: &[u16],
-    party: Party,
-    call: Call,
-    wanted: u32,
-) -> Moved
-    ensures { result ≡ look_of (before kind key next back) party call wanted }
+fn look(columns: &Columns<'_>, party: Party, call: Call, wanted: u32) -> Moved
+    ensures { result ≡ look_of (table_of columns.now) party call wanted }
 {
-    if Row(party.c).below_key(kind, key, wanted) {
-        return look_on(kind, key, next, back, party, call, wanted);
+    if Row(party.c).below_key(columns, wanted) {
+        return look_on(columns, party, call, wanted);
     }
-    landed_contains(kind, key, next, back, party, wanted)
+    landed_contains(columns, party, wanted)
 }
 
 // The move of a party at its place; an idle one makes no access. Nothing is tested or refused.
-pub fn place_move(kind: &[u8], key: &[u32], next: &[u16], back: &[u16], party: Party) -> Moved
-    ensures { result ≡ move_at party.place (before kind key next back) party }
+pub fn place_move(columns: &Columns<'_>, party: Party) -> Moved
+    ensures { result ≡ move_at party.place (table_of columns.now) party }
 {
     let place = party.place;
     match place {
@@ -566,13 +418,13 @@ pub fn place_move(kind: &[u8], key: &[u32], next: &[u16], back: &[u16], party: P
             access: Access::None,
             write: Write::Untouched,
         },
-        Place::Walk(call, wanted) => walk(kind, key, next, back, party, call, wanted),
-        Place::Skip(call, wanted) => skip(kind, key, next, back, party, call, wanted),
-        Place::AddSwap(call, wanted) => add_swap(kind, key, next, back, party, call, wanted),
-        Place::Mark(call, wanted) => mark(kind, key, next, back, party, call, wanted),
-        Place::Reread(call, wanted) => reread(kind, key, next, back, party, call, wanted),
-        Place::Clean(call, wanted) => clean(kind, key, next, back, party, call, wanted),
-        Place::Back(call, wanted) => go_back(kind, key, next, back, party, call, wanted),
-        Place::Look(call, wanted) => look(kind, key, next, back, party, call, wanted),
+        Place::Walk(call, wanted) => walk(columns, party, call, wanted),
+        Place::Skip(call, wanted) => skip(columns, party, call, wanted),
+        Place::AddSwap(call, wanted) => add_swap(columns, party, call, wanted),
+        Place::Mark(call, wanted) => mark(columns, party, call, wanted),
+        Place::Reread(call, wanted) => reread(columns, party, call, wanted),
+        Place::Clean(call, wanted) => clean(columns, party, call, wanted),
+        Place::Back(call, wanted) => go_back(columns, party, call, wanted),
+        Place::Look(call, wanted) => look(columns, party, call, wanted),
     }
 }

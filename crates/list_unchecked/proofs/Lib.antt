@@ -1,3 +1,2 @@
--- The laws that the proofs of the unchecked call and move cite, and that the contracts leave no choice.
-pub mod Laws
+-- That the contracts leave no choice.
 pub mod Determined

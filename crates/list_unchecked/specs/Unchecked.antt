@@ -10,11 +10,12 @@ use Rattle.list_party.specs.declared.State.{State}
 use Rattle.list_party.specs.Party.{party_record, goes_to}
 use Rattle.list_party.specs.State.{party_at, with_party, with_taken, tallied}
 use Rattle.list_rows.specs.declared.Write.TheVariants.{Untouched, Item}
-use Rattle.list_rows.specs.Table.{Table, head, head_nxt}
+use Rattle.list_rows.specs.Table.{Table, table_in, head, head_nxt}
 use Rattle.list_rows.specs.Writes.{written}
 use Rattle.list_moves.specs.declared.Moved.{Moved}
 use Rattle.list_moves.specs.Moves.{move_at}
 use Rattle.list_unchecked.specs.declared.Begun.{Begun}
+use Rattle.list_unchecked.specs.declared.Engine.{Engine}
 
 -- all that the engine works on: the table and the state
 pub record Machine : Type 0 where
@@ -23,6 +24,10 @@ pub record Machine : Type 0 where
 
 abbrev pub machine : Table → State → Machine
 machine table state = record { table = table; state = state }
+
+-- what the code works on: the four lent columns and the state
+abbrev pub machine_of : Engine → Machine
+machine_of engine = machine (table_in engine.columns) engine.state
 
 -- party i of the machine
 abbrev pub party_of : Machine → ℕ → Party

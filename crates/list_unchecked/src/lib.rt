@@ -4,9 +4,9 @@
 
 ghost use Rattle.std.specs.Prelude.{◌≡◌};
 ghost use Rattle.calls.specs.declared.Call.TheVariants.{Contains};
-ghost use Rattle.list_rows.specs.Table.{before_mut, after};
+ghost use Rattle.list_rows.specs.Table.{SameColumns};
 ghost use Rattle.list_unchecked.specs.Unchecked.{
-  machine,
+  machine_of,
   own_row,
   taken_then,
   starting,
@@ -14,14 +14,20 @@ ghost use Rattle.list_unchecked.specs.Unchecked.{
   begun_of,
   unchecked_call,
   made,
-  settled,
   unchecked_move,
 };
 
 use calls::{Call, Said};
-use list_moves::{Moved, place_move};
+use list_moves::place_move;
 use list_party::{Party, Place, State, Values, one_taken};
-use list_rows::{Row, Write, apply};
+use list_rows::{ColumnsMut, Row, Write};
+
+// All that the engine works on: the four lent columns and the state.
+#[derive(Drop)]
+pub struct Engine<'a> {
+    pub columns: ColumnsMut<'a>,
+    pub state: State,
+}
 
 // What a call comes to: the party after it, what is written, how many rows are then taken.
 #[derive(Clone, Copy)]
@@ -31,16 +37,9 @@ struct Begun {
     taken: u16,
 }
 
-// The state after a move, and what is said with it.
-#[derive(Clone, Copy)]
-pub struct Done {
-    pub state: State,
-    pub said: Said,
-}
-
 // The row of an ADD or a REMOVE: the spare, else the next row that nobody has taken.
-fn own_row(state: State, party: Party) -> u16
-    ensures { result ≡ own_row state party }
+fn own_row(state: &State, party: Party) -> u16
+    ensures { result ≡ own_row state.now party }
 {
     if party.unpublished {
         party.own
@@ -50,8 +49,8 @@ fn own_row(state: State, party: Party) -> u16
 }
 
 // How many rows are then taken.
-fn taken_then(state: State, party: Party) -> u16
-    ensures { result ≡ taken_then state party }
+fn taken_then(state: &State, party: Party) -> u16
+    ensures { result ≡ taken_then state.now party }
 {
     if party.unpublished {
         state.taken
@@ -64,42 +63,40 @@ fn taken_then(state: State, party: Party) -> u16
 fn starting(call: Call, wanted: u32, own: u16) -> Party
     ensures { result ≡ starting call wanted own }
 {
-    Party {
-        place: Place::Walk(call, wanted),
+    let first = Values {
         p: Row::HEAD.0,
         n: Row::HEAD_NXT.0,
         c: Row::HEAD_NXT.0,
-        s: 0,
-        r: 0,
+        ..Values::NONE
+    };
+    let with_own = Party {
         own,
         unpublished: true,
-    }
+        ..Party::blank()
+    };
+    with_own.goes_to(Place::Walk(call, wanted), first)
 }
 
 // An ADD or a REMOVE starts.
-fn start(state: State, party: Party, call: Call, wanted: u32) -> Begun
-    ensures { result ≡ start_of state party call wanted }
+fn start(state: &State, party: Party, call: Call, wanted: u32) -> Begun
+    ensures { result ≡ start_of state.now party call wanted }
 {
     let own = own_row(state, party);
-    let taken = taken_then(state, party);
     Begun {
         party: starting(call, wanted, own),
         write: Write::Item(own, wanted),
-        taken,
+        taken: taken_then(state, party),
     }
 }
 
 // A CONTAINS starts, and takes no row.
 #[tactic(auto, unfolding(crate::specs::Unchecked::begun_of))]
-fn look(state: State, party: Party, wanted: u32) -> Begun
-    ensures { result ≡ begun_of state party Contains wanted }
+fn look(state: &State, party: Party, wanted: u32) -> Begun
+    ensures { result ≡ begun_of state.now party Contains wanted }
 {
     let first = Values {
-        p: 0,
-        n: 0,
         c: Row::HEAD_NXT.0,
-        s: 0,
-        r: 0,
+        ..Values::NONE
     };
     Begun {
         party: party.goes_to(Place::Look(Call::Contains, wanted), first),
@@ -110,64 +107,39 @@ fn look(state: State, party: Party, wanted: u32) -> Begun
 
 // A call starts.
 #[tactic(auto, unfolding(crate::specs::Unchecked::begun_of))]
-fn begin(state: State, party: Party, call: Call, wanted: u32) -> Begun
-    ensures { result ≡ begun_of state party call wanted }
+fn begin(state: &State, party: Party, call: Call, wanted: u32) -> Begun
+    ensures { result ≡ begun_of state.now party call wanted }
 {
     match call {
-        Call::Add => start(state, party, Call::Add, wanted),
-        Call::Remove => start(state, party, Call::Remove, wanted),
+        Call::Add | Call::Remove => start(state, party, call, wanted),
         Call::Contains => look(state, party, wanted),
     }
 }
 
-// Starts a call of a party. Refuses nothing.
-pub fn call(
-    kind: &mut [u8],
-    key: &mut [u32],
-    next: &mut [u16],
-    back: &mut [u16],
-    state: State,
-    number: u32,
-    call: Call,
-    wanted: u32,
-) -> State
-    ensures { machine (after kind key next back) result
-        ≡ unchecked_call (machine (before_mut kind key next back) state) number call wanted }
-{
-    let begun = begin(state, state.party_at(number), call, wanted);
-    let write = begun.write;
-    let party = begun.party;
-    apply(kind, key, next, back, write);
-    state.with_party(number, party).with_taken(begun.taken)
-}
+// Neither of these tests or refuses anything.
+impl Engine<'_> {
+    // Starts a call of a party.
+    #[tactic(auto, unfolding(crate::specs::Unchecked::unchecked_call))]
+    pub fn call_unchecked(&mut self, number: u32, call: Call, wanted: u32)
+        ensures called { machine_of self.new ≡ unchecked_call (machine_of self.old) number call wanted }
+        ensures lent { SameColumns self.old.columns self.new.columns }
+    {
+        let begun = begin(&self.state, self.state.party_at(number), call, wanted);
+        self.columns.apply(begun.write);
+        self.state.put_party(number, begun.party);
+        self.state.put_taken(begun.taken);
+    }
 
-// The state with the party's record and the tallies after a move.
-fn settle(state: State, number: u32, moved: Moved) -> State
-    ensures { result ≡ settled state number moved }
-{
-    let party = moved.party;
-    let access = moved.access;
-    state.with_party(number, party).tallied(access)
-}
-
-// Makes one move of a party; of an idle one, none. Refuses nothing.
-pub fn step(
-    kind: &mut [u8],
-    key: &mut [u32],
-    next: &mut [u16],
-    back: &mut [u16],
-    state: State,
-    number: u32,
-) -> Done
-    ensures { made (machine (after kind key next back) result.state) result.said
-        ≡ unchecked_move (machine (before_mut kind key next back) state) number }
-{
-    let moved = place_move(kind, key, next, back, state.party_at(number));
-    let write = moved.write;
-    let said = moved.said;
-    apply(kind, key, next, back, write);
-    Done {
-        state: settle(state, number, moved),
-        said,
+    // Makes one move of a party; of an idle one, none.
+    #[tactic(auto, unfolding(crate::specs::Unchecked::unchecked_move))]
+    pub fn step_unchecked(&mut self, number: u32) -> Said
+        ensures moved { made (machine_of self.new) result ≡ unchecked_move (machine_of self.old) number }
+        ensures lent { SameColumns self.old.columns self.new.columns }
+    {
+        let moved = place_move(&self.columns.view(), self.state.party_at(number));
+        self.columns.apply(moved.write);
+        self.state.put_party(number, moved.party);
+        self.state.tally(moved.access);
+        moved.said
     }
 }
