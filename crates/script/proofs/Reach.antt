@@ -5,10 +5,10 @@ use Rattle.std.proofs.Common.{arith, length, eqb, ltb, leb, ltb-true, le-ltb}
 use borrow.Author.Tests.{eqb-false}
 use Rattle.text.specs.Reading.{lost, byte_at, place_after, word, only, digit_of, first_digit, next_digit, number_at, hex_of, no_pair, pair_at, field_at}
 use Rattle.logic.specs.Quoted.{bytes}
-use Rattle.text.specs.declared.Number.{Number}
+use Rattle.text.specs.declared.Reading.{Reading}
 use Rattle.script.specs.Lines.{line_end, verb_at, call_line, step_line, end_line, line_at, ends_body, next_of}
 use Rattle.script.specs.Head.{parties_line, nodes_line, order_line}
-use Rattle.script.specs.declared.Verb.{Verb}
+use Rattle.calls.specs.declared.Call.{Call as Verb}
 use Rattle.script.specs.declared.CallLine.{CallLine}
 use Rattle.script.specs.declared.Line.{Line}
 use Rattle.script.specs.declared.Line.TheVariants.{Call, Step, End, Bad}
@@ -63,14 +63,14 @@ module _ (text : List ℕ) (L : length text < lost) where
   -- ---- a number and a field
 
   first_reach : {b at : ℕ} → Reach text b at → Reach text (b + 1) (first_digit text at).next
-  first_reach {at = at} r = keep (ltb (digit_of (byte_at text at)) 10) _ _ (λ (n : Number). n.next) (after_reach r) gone
+  first_reach {at = at} r = keep (ltb (digit_of (byte_at text at)) 10) _ _ (λ (n : Reading ℕ). n.next) (after_reach r) gone
 
-  next_reach : {b : ℕ} (n : Number) → Reach text b n.next → Reach text b (next_digit text n).next
+  next_reach : {b : ℕ} (n : Reading ℕ) → Reach text b n.next → Reach text b (next_digit text n).next
   unfolding next_digit
   next_reach n r =
-      keep (eqb n.value 0) n _ (λ (m : Number). m.next) r
-      (keep (ltb n.value 10000) _ n (λ (m : Number). m.next)
-      (keep (ltb (digit_of (byte_at text n.next)) 10) _ n (λ (m : Number). m.next) (weaken _ (omega arith) (after_reach r)) r) r)
+      keep (eqb n.value 0) n _ (λ (m : Reading ℕ). m.next) r
+      (keep (ltb n.value 10000) _ n (λ (m : Reading ℕ). m.next)
+      (keep (ltb (digit_of (byte_at text n.next)) 10) _ n (λ (m : Reading ℕ). m.next) (weaken _ (omega arith) (after_reach r)) r) r)
 
   number_reach : {b at : ℕ} → Reach text b at → Reach text (b + 1) (number_at text at).next
   number_reach r = next_reach _ (next_reach _ (next_reach _ (next_reach _ (first_reach r))))
@@ -100,8 +100,8 @@ module _ (text : List ℕ) (L : length text < lost) where
   verb_reach : {b at : ℕ} → Reach text b at → Reach text b (verb_at text at).next
   unfolding verb_at
   verb_reach {at = at} r =
-      keep (eqb (word text at (bytes " add ")) lost) _ _ (λ (v : Verb). v.next)
-      (keep (eqb (word text at (bytes " remove ")) lost) _ _ (λ (v : Verb). v.next)
+      keep (eqb (word text at (bytes " add ")) lost) _ _ (λ (v : Reading Verb). v.next)
+      (keep (eqb (word text at (bytes " remove ")) lost) _ _ (λ (v : Reading Verb). v.next)
       (weaken _ (omega arith) (word_reach (bytes " contains ") r))
       (weaken _ (omega arith) (word_reach (bytes " remove ") r)))
       (weaken _ (omega arith) (word_reach (bytes " add ") r))
@@ -128,7 +128,7 @@ module _ (text : List ℕ) (L : length text < lost) where
   pub order_reach : {b at : ℕ} → Reach text b at → Reach text b (order_line text at).next
   unfolding order_line
   order_reach {at = at} r =
-      keep (eqb (word text at (bytes "order=big\n")) lost) _ _ (λ (n : Number). n.next)
+      keep (eqb (word text at (bytes "order=big\n")) lost) _ _ (λ (n : Reading ℕ). n.next)
       (weaken _ (omega arith) (word_reach (bytes "order=little\n") r))
       (weaken _ (omega arith) (word_reach (bytes "order=big\n") r))
 
@@ -137,7 +137,7 @@ module _ (text : List ℕ) (L : length text < lost) where
   abbrev Onward : ℕ → Line → Type 0
   Onward at l = ends_body l ≡ false → (at + 6 ≤ next_of l) × (next_of l ≤ length text)
 
-  onward_if : (at : ℕ) (a b c : Bool) (o : CallLine) (s e : Number) → eqb o.next lost ≡ a → eqb s.next lost ≡ b
+  onward_if : (at : ℕ) (a b c : Bool) (o : CallLine) (s e : Reading ℕ) → eqb o.next lost ≡ a → eqb s.next lost ≡ b
       → Reach text (at + 6) o.next → Reach text (at + 6) s.next
       → Onward at (cond a (cond b (cond c Bad (End e.value e.next)) (Step s.value s.next)) (Call o))
   onward_if at false b c o s e p q r t h = found o.next r p

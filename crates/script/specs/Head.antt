@@ -2,12 +2,12 @@
 use Rattle.std.specs.Prelude.{List, cond, ◌&&◌, ◌||◌, ℕ, eqb, leb}
 use Rattle.text.specs.Reading.{lost, word, only, numeral, number_at}
 use Rattle.logic.specs.Quoted.{bytes}
-use Rattle.text.specs.declared.Number.{Number}
+use Rattle.text.specs.declared.Reading.{Reading}
 use Rattle.script.specs.Lines.{line_end}
 use Rattle.script.specs.declared.Head.{Head}
 
 -- parties=, 1 to 16
-unfoldable pub parties_line : List ℕ → Number
+unfoldable pub parties_line : List ℕ → Reading ℕ
 parties_line text =
     let n = number_at text (word text 0 (bytes "parties=")) in
     numeral n.value (only (leb 1 n.value && leb n.value 16) (line_end text n.next))
@@ -17,14 +17,14 @@ unfoldable pub rows_of : ℕ → ℕ
 rows_of nodes = cond (eqb nodes 0) 64 nodes
 
 -- nodes=, 0 or 4 to 4,096
-unfoldable pub nodes_line : List ℕ → ℕ → Number
+unfoldable pub nodes_line : List ℕ → ℕ → Reading ℕ
 nodes_line text at =
     let n = number_at text (word text at (bytes "nodes=")) in
     numeral (rows_of n.value)
     (only (eqb n.value 0 || (leb 4 n.value && leb n.value 4096)) (line_end text n.next))
 
 -- order=big is order code 0, order=little is 1
-unfoldable pub order_line : List ℕ → ℕ → Number
+unfoldable pub order_line : List ℕ → ℕ → Reading ℕ
 order_line text at =
     let big = word text at (bytes "order=big\n") in
     let little = word text at (bytes "order=little\n") in

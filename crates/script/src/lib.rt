@@ -7,24 +7,15 @@ ghost use Rattle.script.specs.Lines.{verb_at, call_line, step_line, end_line, li
 ghost use Rattle.script.specs.Head.{parties_line, rows_of, nodes_line, order_line, first_lost, head_of};
 ghost use Rattle.script.specs.Body.{most_lines, end_bad, last_bad, bad_from, first_bad};
 
-use text::{LOST, Number};
+use calls::Call;
+use text::{LOST, Reading};
 
-// The name of a call as its code, and the place behind it.
-#[derive(Clone, Copy)]
-struct Verb {
-    code: u32,
-    next: usize,
-}
-
-// A line `call=`: the party, the code of the call, the field's bytes as they stand, and the place of the next line.
+// A line `call=`: the party, the call, the field's bytes as they stand, and the place of the next line.
 #[derive(Clone, Copy)]
 pub struct CallLine {
     pub party: u32,
-    pub code: u32,
-    pub b0: u8,
-    pub b1: u8,
-    pub b2: u8,
-    pub b3: u8,
+    pub call: Call,
+    pub field: [u8; 4],
     pub next: usize,
 }
 
@@ -52,24 +43,27 @@ pub struct Head {
 
 // The call that is named here, with a space on both sides.
 #[tactic(auto, unfolding(crate::specs::Lines::verb_at))]
-fn verb_at(text: &[u8], at: usize) -> Verb
+fn verb_at(text: &[u8], at: usize) -> Reading<Call>
     ensures { result ≡ verb_at text.now at }
 {
     let add = text::word(text, at, b" add ");
     let remove = text::word(text, at, b" remove ");
-    if add == LOST {
-        if remove == LOST {
-            return Verb {
-                code: 2,
-                next: text::word(text, at, b" contains "),
-            };
+    if add != LOST {
+        Reading {
+            value: Call::Add,
+            next: add,
         }
-        return Verb {
-            code: 1,
+    } else if remove != LOST {
+        Reading {
+            value: Call::Remove,
             next: remove,
-        };
+        }
+    } else {
+        Reading {
+            value: Call::Contains,
+            next: text::word(text, at, b" contains "),
+        }
     }
-    Verb { code: 0, next: add }
 }
 
 // call=P add HHHHHHHH
@@ -80,25 +74,23 @@ fn call_line(text: &[u8], at: usize) -> CallLine
     let n = text::read_number(text, text::word(text, at, b"call="));
     let v = verb_at(text, n.next);
     let f = text::read_field(text, v.next);
+    let field = f.value;
     let next = text::only(n.value <= 99, text::word(text, f.next, b"\n"));
     CallLine {
         party: n.value,
-        code: v.code,
-        b0: f.b0,
-        b1: f.b1,
-        b2: f.b2,
-        b3: f.b3,
+        call: v.value,
+        field,
         next,
     }
 }
 
 // step=P
 #[tactic(auto, unfolding(crate::specs::Lines::step_line))]
-fn step_line(text: &[u8], at: usize) -> Number
+fn step_line(text: &[u8], at: usize) -> Reading<u32>
     ensures { result ≡ step_line text.now at }
 {
     let n = text::read_number(text, text::word(text, at, b"step="));
-    Number {
+    Reading {
         value: n.value,
         next: text::only(n.value <= 99, text::word(text, n.next, b"\n")),
     }
@@ -106,11 +98,11 @@ fn step_line(text: &[u8], at: usize) -> Number
 
 // end= and a number
 #[tactic(auto, unfolding(crate::specs::Lines::end_line))]
-fn end_line(text: &[u8], at: usize) -> Number
+fn end_line(text: &[u8], at: usize) -> Reading<u32>
     ensures { result ≡ end_line text.now at }
 {
     let n = text::read_number(text, text::word(text, at, b"end="));
-    Number {
+    Reading {
         value: n.value,
         next: text::word(text, n.next, b"\n"),
     }
@@ -121,31 +113,25 @@ fn end_line(text: &[u8], at: usize) -> Number
 pub fn line_at(text: &[u8], at: usize) -> Line
     ensures { result ≡ line_at text.now at }
 {
-    let c = call_line(text, at);
-    if c.next == LOST {
-        let s = step_line(text, at);
-        if s.next == LOST {
-            let e = end_line(text, at);
-            if e.next == LOST {
-                return Line::Bad;
-            }
-            return Line::End(e.value, e.next);
-        }
-        return Line::Step(s.value, s.next);
+    let call = call_line(text, at);
+    let step = step_line(text, at);
+    let end = end_line(text, at);
+    if call.next != LOST {
+        Line::Call(call)
+    } else if step.next != LOST {
+        Line::Step(step.value, step.next)
+    } else if end.next != LOST {
+        Line::End(end.value, end.next)
+    } else {
+        Line::Bad
     }
-    Line::Call(c)
 }
 
 // Whether no call and no step stands in the line.
 pub fn ends_body(line: Line) -> bool
     ensures { result ≡ ends_body line }
 {
-    match line {
-        Line::Call(_) => false,
-        Line::Step(_, _) => false,
-        Line::End(_, _) => true,
-        Line::Bad => true,
-    }
+    matches!(line, Line::End(..) | Line::Bad)
 }
 
 // The place behind a line; behind bytes that are no line, LOST.
@@ -153,21 +139,19 @@ pub fn next_of(line: Line) -> usize
     ensures { result ≡ next_of line }
 {
     match line {
-        Line::Call(c) => c.next,
-        Line::Step(_, next) => next,
-        Line::End(_, next) => next,
+        Line::Call(CallLine { next, .. }) | Line::Step(_, next) | Line::End(_, next) => next,
         Line::Bad => LOST,
     }
 }
 
 // parties=, 1 to 16
 #[tactic(auto, unfolding(crate::specs::Head::parties_line))]
-fn parties_line(text: &[u8]) -> Number
+fn parties_line(text: &[u8]) -> Reading<u32>
     ensures { result ≡ parties_line text.now }
 {
     let n = text::read_number(text, text::word(text, 0, b"parties="));
     let v = n.value;
-    Number {
+    Reading {
         value: v,
         next: text::only((1 <= v) & (v <= 16), text::word(text, n.next, b"\n")),
     }
@@ -183,7 +167,7 @@ fn rows_of(v: u32) -> u32
 
 // nodes=, 0 or 4 to 4,096
 #[tactic(auto, unfolding(crate::specs::Head::nodes_line))]
-fn nodes_line(text: &[u8], at: usize) -> Number
+fn nodes_line(text: &[u8], at: usize) -> Reading<u32>
     ensures { result ≡ nodes_line text.now at }
 {
     let n = text::read_number(text, text::word(text, at, b"nodes="));
@@ -192,7 +176,7 @@ fn nodes_line(text: &[u8], at: usize) -> Number
         (v == 0) | ((4 <= v) & (v <= 4096)),
         text::word(text, n.next, b"\n"),
     );
-    Number {
+    Reading {
         value: rows_of(v),
         next,
     }
@@ -200,19 +184,20 @@ fn nodes_line(text: &[u8], at: usize) -> Number
 
 // order=, big or little
 #[tactic(auto, unfolding(crate::specs::Head::order_line))]
-fn order_line(text: &[u8], at: usize) -> Number
+fn order_line(text: &[u8], at: usize) -> Reading<u32>
     ensures { result ≡ order_line text.now at }
 {
     let big = text::word(text, at, b"order=big\n");
-    if big == LOST {
-        return Number {
+    if big != LOST {
+        Reading {
+            value: 0,
+            next: big,
+        }
+    } else {
+        Reading {
             value: 1,
             next: text::word(text, at, b"order=little\n"),
-        };
-    }
-    Number {
-        value: 0,
-        next: big,
+        }
     }
 }
 
@@ -274,9 +259,7 @@ fn last_bad(seen: usize, line: Line, len: usize) -> usize
 {
     match line {
         Line::End(count, next) => end_bad(seen, count, next, len),
-        Line::Call(_) => seen + 4,
-        Line::Step(_, _) => seen + 4,
-        Line::Bad => seen + 4,
+        _ => seen + 4,
     }
 }
 
@@ -289,22 +272,24 @@ pub fn most_lines(text: &[u8]) -> usize
 }
 
 // The number of the first bad line of a body that starts at a place, or 0.
+#[tactic(
+    auto,
+    unfolding(crate::specs::Body::most_lines),
+    using(crate::proofs::Laws::bad_none, crate::proofs::Laws::bad_stop, crate::proofs::Laws::bad_on)
+)]
 fn body_bad(text: &[u8], from: usize) -> usize
     ensures { result ≡ bad_from text.now 0 from (most_lines text.now) }
 {
     let mut at = from;
-    let mut seen = 0;
-    let mut left = most_lines(text);
-    while 0 < left {
+    let most = most_lines(text);
+    for seen in 0..most {
         let line = line_at(text, at);
         if ends_body(line) {
             return last_bad(seen, line, text.len());
         }
         at = next_of(line);
-        seen += 1;
-        left -= 1;
     }
-    seen + 4
+    most + 4
 }
 
 // The number of the first bad line of a text with this head, or 0.
