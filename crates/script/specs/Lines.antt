@@ -40,6 +40,11 @@ call_line text at =
       next = only (leb n.value 99) (line_end text f.next);
     }
 
+-- ---- a name, a number and LF
+
+abbrev pub number_line : List ℕ → ℕ → (name : List ℕ) → Reading ℕ
+number_line text at name = let n = number_at text (word text at name) in numeral n.value (line_end text n.next)
+
 -- ---- step=P
 
 unfoldable pub step_line : List ℕ → ℕ → Reading ℕ

@@ -3,9 +3,9 @@
 #![tactic(auto)]
 
 ghost use Rattle.std.specs.Prelude.{◌≡◌, ◌<◌};
-ghost use Rattle.script.specs.Lines.{verb_at, call_line, step_line, end_line, line_at, ends_body, next_of};
+ghost use Rattle.script.specs.Lines.{verb_at, call_line, number_line, step_line, end_line, line_at, ends_body, next_of};
 ghost use Rattle.script.specs.Head.{parties_line, rows_of, nodes_line, order_line, first_lost, head_of};
-ghost use Rattle.script.specs.Body.{most_lines, end_bad, last_bad, bad_from, first_bad};
+ghost use Rattle.script.specs.Body.{most_lines, last_bad, bad_from, first_bad};
 
 use calls::Call;
 use text::{LOST, Reading};
@@ -32,6 +32,8 @@ pub enum Line {
 }
 
 // The first three lines: what they set, the place behind them, and the number of the first that breaks the rules, or 0.
+// `bad` stays a number, as `first_bad` answers one: GoodHead, FuelNeverDecides, OnlyWritten, ReadAs compare it with 0.
+// `order` stays the code that `list_play::play_line` takes.
 #[derive(Clone, Copy)]
 pub struct Head {
     pub parties: u32,
@@ -84,15 +86,26 @@ fn call_line(text: &[u8], at: usize) -> CallLine
     }
 }
 
+// A name, a number and LF.
+fn number_line(text: &[u8], at: usize, name: &[u8]) -> Reading<u32>
+    ensures { result ≡ number_line text.now at name.now }
+{
+    let n = text::read_number(text, text::word(text, at, name));
+    Reading {
+        next: text::word(text, n.next, b"\n"),
+        ..n
+    }
+}
+
 // step=P
 #[tactic(auto, unfolding(crate::specs::Lines::step_line))]
 fn step_line(text: &[u8], at: usize) -> Reading<u32>
     ensures { result ≡ step_line text.now at }
 {
-    let n = text::read_number(text, text::word(text, at, b"step="));
+    let n = number_line(text, at, b"step=");
     Reading {
-        value: n.value,
-        next: text::only(n.value <= 99, text::word(text, n.next, b"\n")),
+        next: text::only(n.value <= 99, n.next),
+        ..n
     }
 }
 
@@ -101,11 +114,7 @@ fn step_line(text: &[u8], at: usize) -> Reading<u32>
 fn end_line(text: &[u8], at: usize) -> Reading<u32>
     ensures { result ≡ end_line text.now at }
 {
-    let n = text::read_number(text, text::word(text, at, b"end="));
-    Reading {
-        value: n.value,
-        next: text::word(text, n.next, b"\n"),
-    }
+    number_line(text, at, b"end=")
 }
 
 // The line that stands at a place behind the head.
@@ -114,17 +123,18 @@ pub fn line_at(text: &[u8], at: usize) -> Line
     ensures { result ≡ line_at text.now at }
 {
     let call = call_line(text, at);
-    let step = step_line(text, at);
-    let end = end_line(text, at);
     if call.next != LOST {
-        Line::Call(call)
-    } else if step.next != LOST {
-        Line::Step(step.value, step.next)
-    } else if end.next != LOST {
-        Line::End(end.value, end.next)
-    } else {
-        Line::Bad
+        return Line::Call(call);
     }
+    let step = step_line(text, at);
+    if step.next != LOST {
+        return Line::Step(step.value, step.next);
+    }
+    let end = end_line(text, at);
+    if end.next != LOST {
+        return Line::End(end.value, end.next);
+    }
+    Line::Bad
 }
 
 // Whether no call and no step stands in the line.
@@ -149,11 +159,10 @@ pub fn next_of(line: Line) -> usize
 fn parties_line(text: &[u8]) -> Reading<u32>
     ensures { result ≡ parties_line text.now }
 {
-    let n = text::read_number(text, text::word(text, 0, b"parties="));
-    let v = n.value;
+    let n = number_line(text, 0, b"parties=");
     Reading {
-        value: v,
-        next: text::only((1 <= v) & (v <= 16), text::word(text, n.next, b"\n")),
+        next: text::only(matches!(n.value, 1..=16), n.next),
+        ..n
     }
 }
 
@@ -170,15 +179,10 @@ fn rows_of(v: u32) -> u32
 fn nodes_line(text: &[u8], at: usize) -> Reading<u32>
     ensures { result ≡ nodes_line text.now at }
 {
-    let n = text::read_number(text, text::word(text, at, b"nodes="));
-    let v = n.value;
-    let next = text::only(
-        (v == 0) | ((4 <= v) & (v <= 4096)),
-        text::word(text, n.next, b"\n"),
-    );
+    let n = number_line(text, at, b"nodes=");
     Reading {
-        value: rows_of(v),
-        next,
+        value: rows_of(n.value),
+        next: text::only(matches!(n.value, 0 | 4..=4096), n.next),
     }
 }
 
@@ -206,15 +210,10 @@ fn order_line(text: &[u8], at: usize) -> Reading<u32>
 fn first_lost(parties: usize, nodes: usize, order: usize) -> usize
     ensures { result ≡ first_lost parties nodes order }
 {
-    if parties == LOST {
-        1
-    } else if nodes == LOST {
-        2
-    } else if order == LOST {
-        3
-    } else {
-        0
-    }
+    [parties, nodes, order]
+        .iter()
+        .position(|&next| next == LOST)
+        .map_or(0, |line| line + 1)
 }
 
 // The head of a text.
@@ -235,30 +234,17 @@ pub fn read_head(text: &[u8]) -> Head
     }
 }
 
-// The bad line that an `end=` behind so many lines leads to, or 0: itself if its number is wrong,
-// the next one if bytes follow.
-#[tactic(auto, unfolding(crate::specs::Body::end_bad))]
-fn end_bad(seen: usize, count: u32, next: usize, len: usize) -> usize
-    requires { seen < 9223372036854775808 }
-    ensures { result ≡ end_bad seen count next len }
-{
-    if count as usize != seen {
-        return seen + 4;
-    }
-    if next != len {
-        return seen + 5;
-    }
-    0
-}
-
-// The bad line that a line without call and step leads to, or 0.
-#[tactic(auto, unfolding(crate::specs::Body::last_bad))]
+// The bad line that a line without call and step leads to, or 0. An `end=` is bad itself if it gives another number
+// than that of the lines before it, and leads to the next line if bytes follow it.
+#[tactic(auto, unfolding(crate::specs::Body::last_bad, crate::specs::Body::end_bad))]
 fn last_bad(seen: usize, line: Line, len: usize) -> usize
     requires { seen < 9223372036854775808 }
     ensures { result ≡ last_bad seen line len }
 {
     match line {
-        Line::End(count, next) => end_bad(seen, count, next, len),
+        Line::End(count, next) if count as usize == seen => {
+            if next == len { 0 } else { seen + 5 }
+        }
         _ => seen + 4,
     }
 }
@@ -272,11 +258,7 @@ pub fn most_lines(text: &[u8]) -> usize
 }
 
 // The number of the first bad line of a body that starts at a place, or 0.
-#[tactic(
-    auto,
-    unfolding(crate::specs::Body::most_lines),
-    using(crate::proofs::Laws::bad_none, crate::proofs::Laws::bad_stop, crate::proofs::Laws::bad_on)
-)]
+#[tactic(auto, unfolding(crate::specs::Body::most_lines, crate::specs::Body::bad_from), using(text::proofs::Laws::one_left))]
 fn body_bad(text: &[u8], from: usize) -> usize
     ensures { result ≡ bad_from text.now 0 from (most_lines text.now) }
 {
@@ -297,8 +279,8 @@ fn body_bad(text: &[u8], from: usize) -> usize
 pub fn first_bad(text: &[u8], head: Head) -> usize
     ensures { result ≡ first_bad text.now head }
 {
-    if head.bad == 0 {
-        return body_bad(text, head.next);
+    match head.bad {
+        0 => body_bad(text, head.next),
+        bad => bad,
     }
-    head.bad
 }

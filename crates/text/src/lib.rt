@@ -51,7 +51,7 @@ pub fn only(holds: bool, at: usize) -> usize
 }
 
 // The place behind a word that stands here, else LOST.
-#[tactic(auto, using(crate::proofs::Laws::word_on, crate::proofs::Laws::word_off, crate::proofs::Laws::word_end))]
+#[tactic(auto, using(crate::proofs::Laws::word_steps), unfolding(crate::specs::Reading::word))]
 pub fn word(text: &[u8], at: usize, wanted: &[u8]) -> usize
     ensures { result ≡ Reading·word text.now at wanted.now }
 {
@@ -109,7 +109,7 @@ fn next_digit(text: &[u8], n: Reading<u32>) -> Reading<u32>
 
 // The decimal number that stands here. Of a longer one only five digits are read,
 // and what follows is then no end of a line.
-#[tactic(auto, using(crate::proofs::Laws::digit_on))]
+#[tactic(auto, using(crate::proofs::Laws::one_left))]
 pub fn read_number(text: &[u8], at: usize) -> Reading<u32>
     ensures { result ≡ number_at text.now at }
 {
