@@ -7,7 +7,7 @@ use Prim.Native.String.{String}
 use Rattle.std.proofs.Math.Seq.{drop-append_seam}
 use Rattle.text.specs.Reading.{lost, byte_at, place_after, word, only, digit_of, numeral, number_at, hex_of, pair_at, field_at}
 use Rattle.logic.specs.Quoted.{bytes}
-use Rattle.text.specs.declared.Number.{Number}
+use Rattle.text.specs.declared.Reading.{Reading}
 use Rattle.page.specs.Page.{decimal}
 use Rattle.script.specs.Lines.{line_end}
 use Rattle.grammar.specs.Schedule.{byte_pairs, AllHex, number_text}
@@ -97,8 +97,8 @@ module _ {text : List ℕ} where
       ap (number_at text) (sym (length-take-le at text l.fits))
       ∙ ap (λ (t : List ℕ). number_at t (length before)) whole
       ∙ reads_back before ahead n short ends in (
-        ap (λ (m : Number). m.value) read,
-        subst (λ (m : Number). Lies text m.next ahead) (sym read) (lies_behind (before ++ decimal n) ahead whole),
+        ap (λ (m : Reading ℕ). m.value) read,
+        subst (λ (m : Reading ℕ). Lies text m.next ahead) (sym read) (lies_behind (before ++ decimal n) ahead whole),
       )
 
   pair_lies : (a b : ℕ) (ahead : List ℕ) {at : ℕ} → hex_of a < 16 → hex_of b < 16 → Lies text at (a ∷ b ∷ ahead)
@@ -122,7 +122,7 @@ module _ {text : List ℕ} where
 
   pub field_lies : (ds ahead : List ℕ) {at : ℕ} → length ds ≡ 8 → AllHex ds → Lies text at (ds ++ ahead)
       → let f = field_at text at in
-      (f.b0 ∷ f.b1 ∷ f.b2 ∷ f.b3 ∷ [] ≡ byte_pairs ds) × Lies text f.next ahead
+      (f.value ≡ byte_pairs ds) × Lies text f.next ahead
   unfolding field_at
   field_lies ds ahead long hex l = pairs_lie 4 ds ahead long hex l
 

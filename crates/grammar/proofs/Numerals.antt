@@ -6,7 +6,7 @@ use Rattle.std.proofs.Common.{ltb, lt-ltb, le-ltb, ne_eqb}
 use Rattle.std.proofs.Math.Logic.{dite}
 use Rattle.std.proofs.Math.Decide.{dec_lt}
 use Rattle.std.proofs.Math.Seq.{get_or_at, append_snoc}
-use Rattle.text.specs.declared.Number.{Number}
+use Rattle.text.specs.declared.Reading.{Reading}
 use Rattle.text.specs.Reading.{byte_at, place_after, digit_of, numeral, first_digit, next_digit}
 use Rattle.page.specs.Page.{digits, decimal}
 use Rattle.grammar.specs.Numerals.{ReadsBack}
@@ -42,7 +42,7 @@ byte_behind before behind =
 
 -- ---- readings that find no digit
 
-settled : (a b : Bool) (x : Number) → cond a x (cond b x x) ≡ x
+settled : (a b : Bool) (x : Reading ℕ) → cond a x (cond b x x) ≡ x
 settled true b x = refl
 settled false true x = refl
 settled false false x = refl
@@ -52,11 +52,11 @@ unfolding next_digit
 next_stays text v at ends = simp ends (settled (eqb v 0) (ltb v 10000) (numeral v at))
 
 -- so many readings
-abbrev more_digits : List ℕ → ℕ → Number → Number
+abbrev more_digits : List ℕ → ℕ → Reading ℕ → Reading ℕ
 more_digits text zero x = x
 more_digits text (suc k) x = next_digit text (more_digits text k x)
 
-digits_stay : (text : List ℕ) (x y : Number) (j i : ℕ) → more_digits text j x ≡ y → next_digit text y ≡ y → more_digits text (i + j) x ≡ y
+digits_stay : (text : List ℕ) (x y : Reading ℕ) (j i : ℕ) → more_digits text j x ≡ y → next_digit text y ≡ y → more_digits text (i + j) x ≡ y
 digits_stay text x y j zero e stays = ap (λ (k : ℕ). more_digits text k x) (zero-add j) ∙ e
 digits_stay text x y j (suc i) e stays =
     ap (λ (k : ℕ). more_digits text k x) (suc-add i j) ∙ ap (next_digit text) (digits_stay text x y j i e stays) ∙ stays

@@ -8,7 +8,9 @@ use Rattle.text.specs.Reading.{lost, word, number_at, field_at}
 use Rattle.logic.specs.Quoted.{bytes}
 use Rattle.logic.proofs.Cases.{on_cond}
 use Rattle.logic.proofs.Tests.{and_parts}
-use Rattle.text.specs.declared.Number.{Number}
+use Rattle.text.specs.declared.Reading.{Reading}
+use Rattle.calls.specs.declared.Call.TheVariants.{Add, Remove, Contains}
+use Rattle.calls.specs.Calls.{code_of}
 use Rattle.script.specs.Lines.{line_end, verb, verb_at, call_line, step_line, end_line, line_at, ends_body, next_of}
 use Rattle.script.specs.Head.{parties_line, nodes_line, order_line, head_of}
 use Rattle.script.specs.Body.{most_lines, end_bad, last_bad, bad_from, first_bad}
@@ -69,14 +71,14 @@ module _ (text : List ℕ) (L : length text ≤ 65536) where
   verb_if : (at : ℕ) (a r : Bool) →
       let contains = word text at (bytes " contains ") in
       let remove = word text at (bytes " remove ") in
-      let v = cond a (cond r (verb 2 contains) (verb 1 remove)) (verb 0 (word text at (bytes " add "))) in
-      VerbAt at v.code v.next
+      let v = cond a (cond r (verb Contains contains) (verb Remove remove)) (verb Add (word text at (bytes " add "))) in
+      VerbAt at (code_of v.value) v.next
   unfolding verb_text
   verb_if at true true h = (omega arith, word_stands text L (bytes " contains ") at h)
   verb_if at true false h = (omega arith, word_stands text L (bytes " remove ") at h)
   verb_if at false r h = (omega arith, word_stands text L (bytes " add ") at h)
 
-  verb_stands : (at : ℕ) → VerbAt at (verb_at text at).code (verb_at text at).next
+  verb_stands : (at : ℕ) → VerbAt at (code_of (verb_at text at).value) (verb_at text at).next
   unfolding verb_at
   verb_stands at = verb_if at (eqb (word text at (bytes " add ")) lost) (eqb (word text at (bytes " remove ")) lost)
 
@@ -96,7 +98,7 @@ module _ (text : List ℕ) (L : length text ≤ 65536) where
       let front = word_stands text L (bytes "call=") at number.kept in (
         number.kept,
         record {
-          item = calls n.value v.code field.digits;
+          item = calls n.value (code_of v.value) field.digits;
           good = (leb-true n.value 99 t.0, named.0, field.long, field.hex);
           stands = upto (then (then (then (then front number) named.1) field.stands) end) (sym t.1);
         },
@@ -182,7 +184,7 @@ module _ (text : List ℕ) (L : length text ≤ 65536) where
       → ((order_line text at).value < 2) × Stands text at (order_text (order_line text at).value) (order_line text at).next
   unfolding order_line order_text
   order_stands at =
-      on_cond (λ (n : Number). n.next ≢ lost → (n.value < 2) × Stands text at (order_text n.value) n.next)
+      on_cond (λ (n : Reading ℕ). n.next ≢ lost → (n.value < 2) × Stands text at (order_text n.value) n.next)
       (eqb (word text at (bytes "order=big\n")) lost) _ _
       (λ b h. (omega arith, word_stands text L (bytes "order=little\n") at h))
       (λ b h. (omega arith, word_stands text L (bytes "order=big\n") at h))

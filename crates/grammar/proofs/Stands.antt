@@ -8,7 +8,7 @@ use Rattle.text.specs.Reading.{lost, byte_at, place_after, word, only, digit_of,
 use Rattle.text.specs.Reading.{field_at}
 use Rattle.logic.specs.Quoted.{bytes}
 use Rattle.logic.proofs.Cases.{on_cond}
-use Rattle.text.specs.declared.Number.{Number}
+use Rattle.text.specs.declared.Reading.{Reading}
 use Rattle.page.specs.Page.{digits, decimal}
 use Rattle.script.specs.Lines.{line_end}
 use Rattle.grammar.specs.Schedule.{AllHex, number_text}
@@ -107,7 +107,7 @@ module _ (text : List ℕ) (L : length text ≤ 65536) where
   -- ---- a number
 
   -- if the reading of a number is not lost, the number stands here
-  abbrev NumberAt : ℕ → Number → Type 0
+  abbrev NumberAt : ℕ → Reading ℕ → Type 0
   NumberAt at n = n.next ≢ lost → Stands text at (decimal n.value) n.next
 
   first_stands : (at : ℕ) → NumberAt at (first_digit text at)
@@ -119,7 +119,7 @@ module _ (text : List ℕ) (L : length text ≤ 65536) where
       (byte_stands at h))
       (λ e h. absurd (h refl))
 
-  one_more_lem : (at : ℕ) (n : Number) → NumberAt at n → 0 < n.value → n.value < 10000 → digit_of (byte_at text n.next) < 10
+  one_more_lem : (at : ℕ) (n : Reading ℕ) → NumberAt at n → 0 < n.value → n.value < 10000 → digit_of (byte_at text n.next) < 10
       → NumberAt at (numeral (n.value * 10 + digit_of (byte_at text n.next)) (place_after text n.next))
   one_more_lem at n front positive few small h =
       let b = byte_at text n.next in
@@ -128,7 +128,7 @@ module _ (text : List ℕ) (L : length text ≤ 65536) where
       (decimal_more n.value (digit_of b) b positive few small (digit_byte b small))
       (then (front last.kept) last)
 
-  next_stands : (at : ℕ) (n : Number) → NumberAt at n → NumberAt at (next_digit text n)
+  next_stands : (at : ℕ) (n : Reading ℕ) → NumberAt at n → NumberAt at (next_digit text n)
   unfolding next_digit
   next_stands at n front =
       let b = byte_at text n.next in

@@ -6,6 +6,7 @@ use borrow.Author.Tests.{eqb-false}
 use Rattle.text.specs.Reading.{lost, word, digit_of, number_at}
 use Rattle.logic.specs.Quoted.{bytes}
 use Rattle.page.specs.Page.{decimal}
+use Rattle.calls.specs.Calls.{code_of}
 use Rattle.script.specs.Lines.{verb_at, call_line, step_line, end_line, line_at, ends_body, next_of}
 use Rattle.script.specs.Head.{parties_line, rows_of, nodes_line, order_line, first_lost, head_of}
 use Rattle.script.specs.Body.{most_lines, body_from, end_bad, last_bad, bad_from, first_bad}
@@ -67,7 +68,7 @@ module _ (text : List ℕ) (L : length text ≤ 65536) where
 
   -- if a verb lies ahead, its code is read
   abbrev ReadVerb : (code : ℕ) → List ℕ → ℕ → List ℕ → Type 0
-  ReadVerb code ahead at w = Lies text at (w ++ ahead) → ((verb_at text at).code ≡ code) × Lies text (verb_at text at).next ahead
+  ReadVerb code ahead at w = Lies text at (w ++ ahead) → (code_of (verb_at text at).value ≡ code) × Lies text (verb_at text at).next ahead
 
   verb_lies : (code : ℕ) (ahead : List ℕ) (at : ℕ) → code < 3 → ReadVerb code ahead at (verb_text code)
   unfolding verb_at verb_text
