@@ -1,13 +1,14 @@
 -- The fuel that the two readings of a body are allowed is enough, and a good head sets what a list can be set up with.
 -- Assumes nothing.
 use Rattle.std.proofs.Common.{◌≡◌, false, List, ℕ, zero, suc, ◌+◌, ◌*◌, ◌<◌, ◌≤◌, suc-add, arith, length, eqb}
+use Rattle.std.proofs.lemmas.Bool.{eqb-false}
 use Rattle.std.proofs.lemmas.Bool.Decides.{nat_tests}
 use Rattle.text.specs.Reading.{lost}
 use Rattle.script.specs.Lines.{line_at, ends_body, next_of}
 use Rattle.script.specs.Head.{parties_line, rows_of, nodes_line, order_line, first_lost, head_of}
 use Rattle.script.specs.Body.{most_lines, body_from, bad_from}
 use Rattle.script.specs.Claims.{FuelNeverDecides, GoodHead}
-use Rattle.script.proofs.Reach.{found, here, onward, parties_reach, nodes_reach, order_reach}
+use Rattle.script.proofs.Reach.{here, onward, parties_reach, nodes_reach, order_reach}
 
 -- ---- fuel
 
@@ -51,7 +52,8 @@ fuel_never_decides text more L e =
     let p = (parties_line text).next in
     let n = (nodes_line text p).next in
     let o = (order_line text n).next in
-    let w = found o (order_reach text L (nodes_reach text L (parties_reach text L (here text L 0 (omega arith))))) (kept text e).2 in
+    let reach = order_reach text L (nodes_reach text L (parties_reach text L (here text L 0 (omega arith)))) in
+    let w = reach.led (eqb-false o lost (kept text e).2) in
     enough text L more (most_lines text) 0 o w.1 (most_enough text o w.0)
 
 -- ---- what a good head sets
