@@ -258,7 +258,7 @@ pub fn most_lines(text: &[u8]) -> usize
 }
 
 // The number of the first bad line of a body that starts at a place, or 0.
-#[tactic(auto, unfolding(crate::specs::Body::most_lines, crate::specs::Body::bad_from), using(text::proofs::Laws::one_left))]
+#[tactic(auto, unfolding(crate::specs::Body::most_lines, crate::specs::Body::bad_from), using(text::proofs::Laws::rest))]
 fn body_bad(text: &[u8], from: usize) -> usize
     ensures { result ≡ bad_from text.now 0 from (most_lines text.now) }
 {
