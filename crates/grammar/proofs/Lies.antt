@@ -24,10 +24,6 @@ clash [] w = false
 clash (a ∷ more) [] = false
 clash (a ∷ more) (b ∷ bs) = cond (eqb b a) (clash more bs) true
 
-clash_if : (t c : Bool) (x : ℕ) → cond t c true ≡ true → (c ≡ true → x ≡ lost) → cond t x lost ≡ lost
-clash_if true c x h f = f h
-clash_if false c x h f = refl
-
 -- the bytes of so many pairs of hex digits
 abbrev pairs_at : List ℕ → (at pairs : ℕ) → List ℕ
 pairs_at text at zero = []
@@ -82,8 +78,9 @@ module _ {text : List ℕ} where
   word_lost [] w ahead h l = absurd (true≢false (sym h))
   word_lost (a ∷ more) [] ahead h l = absurd (true≢false (sym h))
   word_lost (a ∷ more) (b ∷ bs) ahead {at = at} h l =
-      rw (byte_is b (bs ++ ahead) l)
-      (clash_if (eqb b a) (clash more bs) _ h (λ c. word_lost more bs ahead c (after_lies b (bs ++ ahead) l)))
+      let rest : clash more bs ≡ true → word text (place_after text at) more ≡ lost =
+      λ c. word_lost more bs ahead c (after_lies b (bs ++ ahead) l) in
+      rw (byte_is b (bs ++ ahead) l) (grind (arith, rest))
 
   -- ---- a number and a field
 
@@ -129,8 +126,7 @@ module _ {text : List ℕ} where
   -- ---- a line of a name and a number
 
   pub only_lies : (t : Bool) (ahead : List ℕ) {at : ℕ} → t ≡ true → Lies text at ahead → Lies text (only t at) ahead
-  only_lies true ahead e l = l
-  only_lies false ahead e l = absurd (true≢false (sym e))
+  only_lies t ahead e l = rw e l
 
   -- a line starts with its name
   pub line_first : (name : String) (n : ℕ) (ahead : List ℕ) {at : ℕ} → Lies text at (number_text name n ++ ahead)

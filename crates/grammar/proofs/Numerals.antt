@@ -1,8 +1,9 @@
 -- Reading a written number: its first digit, one reading for each further digit, and readings that find no digit and change nothing.
 -- Assumes nothing.
-use Rattle.std.proofs.Common.{◌≡◌, refl, ap, sym, ◌∙◌, Bool, true, false, cond, List, [], ◌∷◌, ◌++◌, append_assoc, ℕ, zero, suc, ◌+◌, ◌-◌, ◌*◌, ◌/◌, ◌%◌, ◌^◌}
-use Rattle.std.proofs.Common.{◌<◌, ◌≤◌, not-suc-le-zero, pow-suc, add-zero, zero-add, suc-add, arith, length, get_or, length-append, get_or-append-add, eqb}
-use Rattle.std.proofs.Common.{ltb, lt-ltb, le-ltb, ne_eqb}
+use Rattle.std.proofs.lemmas.Bool.Decides.{nat_tests}
+use Rattle.std.proofs.Common.{◌≡◌, refl, ap, sym, ◌∙◌, List, [], ◌∷◌, ◌++◌, append_assoc, ℕ, zero, suc, ◌+◌, ◌-◌, ◌*◌, ◌/◌, ◌%◌, ◌^◌}
+use Rattle.std.proofs.Common.{◌<◌, ◌≤◌, not-suc-le-zero, pow-suc, add-zero, zero-add, suc-add, arith, length, get_or, length-append, get_or-append-add}
+use Rattle.std.proofs.Common.{lt-ltb, le-ltb, ne_eqb}
 use Rattle.std.proofs.Math.Logic.{dite}
 use Rattle.std.proofs.Math.Decide.{dec_lt}
 use Rattle.std.proofs.Math.Seq.{get_or_at, append_snoc}
@@ -15,7 +16,7 @@ use Rattle.grammar.specs.Numerals.{ReadsBack}
 
 digit_of_lem : (q : ℕ) → q < 10 → digit_of (48 + q) ≡ q
 unfolding digit_of
-digit_of_lem q h = simp (le-ltb (48 + q) 48 (omega arith), lt-ltb (48 + q) 58 (omega arith)) (omega arith)
+digit_of_lem q h = grind (arith, nat_tests)
 
 -- a digit that stands behind `before`
 module _ (before : List ℕ) (q : ℕ) (behind : List ℕ) (at : ℕ) (here : length before ≡ at) where
@@ -42,14 +43,9 @@ byte_behind before behind =
 
 -- ---- readings that find no digit
 
-settled : (a b : Bool) (x : Reading ℕ) → cond a x (cond b x x) ≡ x
-settled true b x = refl
-settled false true x = refl
-settled false false x = refl
-
 next_stays : (text : List ℕ) (v at : ℕ) → digit_of (byte_at text at) ≡ 10 → next_digit text (numeral v at) ≡ numeral v at
 unfolding next_digit
-next_stays text v at ends = simp ends (settled (eqb v 0) (ltb v 10000) (numeral v at))
+next_stays text v at ends = grind (arith, ends)
 
 -- so many readings
 abbrev more_digits : List ℕ → ℕ → Reading ℕ → Reading ℕ

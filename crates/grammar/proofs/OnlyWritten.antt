@@ -1,13 +1,13 @@
 -- A text without a bad line is the text of a schedule: line by line, what was read is an item, and stands as it is written.
 -- Assumes nothing.
+use Rattle.std.proofs.lemmas.Bool.Decides.{nat_tests}
 use Rattle.std.proofs.Common.{◌≡◌, refl, ap, sym, subst, ◌∙◌, ◌≢◌, ◌⊎◌, inl, inr, Bool, true, false, cond, ◌&&◌, ◌||◌, true≢false, List, [], ◌∷◌, ◌++◌}
-use Rattle.std.proofs.Common.{append-nil, ℕ, zero, suc, ◌+◌, ◌<◌, ◌≤◌, arith, length, eqb, leb, leb-true, eqb-true}
+use Rattle.std.proofs.Common.{append-nil, ℕ, zero, suc, ◌+◌, ◌<◌, ◌≤◌, arith, length, eqb, leb, leb-true}
 use Rattle.std.proofs.Math.Seq.{drop-length}
 use borrow.Author.Tests.{eqb-false}
 use Rattle.text.specs.Reading.{lost, word, number_at, field_at}
 use Rattle.logic.specs.Quoted.{bytes}
 use Rattle.logic.proofs.Cases.{on_cond}
-use Rattle.logic.proofs.Tests.{and_parts}
 use Rattle.text.specs.declared.Reading.{Reading}
 use Rattle.calls.specs.declared.Call.TheVariants.{Add, Remove, Contains}
 use Rattle.calls.specs.Calls.{code_of}
@@ -50,11 +50,7 @@ record BodyAt (text : List ℕ) (seen at : ℕ) : Type 0 where
 -- `end=` is good if it gives the number of lines and is the last
 end_good : (seen count next len : ℕ) → end_bad seen count next len ≡ 0 → (count ≡ seen) × (next ≡ len)
 unfolding end_bad
-end_good seen count next len =
-    on_cond (λ n. n ≡ 0 → (count ≡ seen) × (next ≡ len)) (eqb count seen) _ _
-    (λ c. on_cond (λ n. n ≡ 0 → (count ≡ seen) × (next ≡ len)) (eqb next len) _ _
-    (λ e z. (eqb-true count seen c, eqb-true next len e)) (λ e z. absurd (omega arith)))
-    (λ c z. absurd (omega arith))
+end_good seen count next len z = (grind arith, grind arith)
 
 -- the same number by another name
 renumber : {text : List ℕ} {at n m next : ℕ} → n ≡ m
@@ -195,13 +191,12 @@ module _ (text : List ℕ) (L : length text ≤ 65536) where
   unfolding parties_line
   parties_stands h =
       let s = line_stands text L "parties=" (λ v. leb 1 v && leb v 16) 0 h in
-      let w = and_parts _ _ s.0 in
-      ((leb-true _ _ w.0, leb-true _ _ w.1), s.1)
+      ((grind (arith, nat_tests, s.0), grind (arith, nat_tests, s.0)), s.1)
 
   -- 0, or 4 to 4,096
   nodes_good : (v : ℕ) (z : Bool) → eqb v 0 ≡ z → z || (leb 4 v && leb v 4096) ≡ true → (v ≡ 0) ⊎ ((4 ≤ v) × (v ≤ 4096))
-  nodes_good v true e h = inl (eqb-true v 0 e)
-  nodes_good v false e h = let w = and_parts (leb 4 v) (leb v 4096) h in inr (leb-true 4 v w.0, leb-true v 4096 w.1)
+  nodes_good v true e h = inl (grind arith)
+  nodes_good v false e h = inr (grind (arith, nat_tests), grind (arith, nat_tests))
 
   nodes_stands : (at : ℕ) → (nodes_line text at).next ≢ lost
       → let v = (number_at text (word text at (bytes "nodes="))).value in
@@ -216,10 +211,7 @@ module _ (text : List ℕ) (L : length text ≤ 65536) where
 head_good : (text : List ℕ) → first_bad text (head_of text) ≡ 0
     → ((head_of text).bad ≡ 0) × (bad_from text 0 (head_of text).next (most_lines text) ≡ 0)
 unfolding first_bad
-head_good text =
-    let h = head_of text in
-    on_cond (λ n. n ≡ 0 → (h.bad ≡ 0) × (bad_from text 0 h.next (most_lines text) ≡ 0)) (eqb h.bad 0) _ _
-    (λ e z. (eqb-true h.bad 0 e, z)) (λ e z. absurd (eqb-false h.bad 0 e z))
+head_good text z = (grind arith, grind arith)
 
 pub only_written : OnlyWritten
 unfolding head_of

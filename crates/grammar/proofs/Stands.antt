@@ -1,7 +1,7 @@
 -- A reading that is not lost has read what stands in the text: words, numbers as `decimal` writes them, hex digits.
 -- Assumes nothing.
-use Rattle.std.proofs.Common.{◌≡◌, refl, ap, sym, subst, ◌∙◌, ◌≢◌, Bool, true, false, cond, List, [], ◌∷◌, ◌++◌, append_assoc, ℕ, zero, suc, ◌+◌, ◌-◌, ◌*◌}
-use Rattle.std.proofs.Common.{◌/◌, ◌%◌, ◌^◌, ◌<◌, ◌≤◌, pow-suc, add-one, arith, length, drop, drop-cons, eqb, ltb, ltb-true, ltb-false, lt-ltb, eqb-true}
+use Rattle.std.proofs.Common.{◌≡◌, refl, ap, sym, subst, ◌∙◌, ◌≢◌, Bool, true, false, cond, List, [], ◌∷◌, ◌++◌, append_assoc, ℕ, zero, suc, ◌+◌, ◌*◌}
+use Rattle.std.proofs.Common.{◌/◌, ◌%◌, ◌^◌, ◌<◌, ◌≤◌, pow-suc, add-one, arith, length, drop, drop-cons, eqb, ltb, ltb-true, lt-ltb, eqb-true}
 use Prim.Native.String.{String}
 use borrow.Author.Tests.{eqb-false}
 use Rattle.text.specs.Reading.{lost, byte_at, place_after, word, only, digit_of, numeral, first_digit, next_digit, number_at, hex_of, no_pair, pair_at}
@@ -47,9 +47,7 @@ Spells b d = d < 10 → 48 + d ≡ b
 
 digit_byte : (b : ℕ) → Spells b (digit_of b)
 unfolding digit_of
-digit_byte b =
-    on_cond (Spells b) (ltb b 48) 10 _ (λ e h. absurd (omega arith))
-    (λ e. on_cond (Spells b) (ltb b 58) (b - 48) 10 (λ f h. omega (arith, ltb-false b 48 e)) (λ f h. absurd (omega arith)))
+digit_byte b h = grind arith
 
 -- enough digits are as good as one more
 digits_more : (k v : ℕ) → v < 10 ^ suc k → digits (suc (suc k)) v ≡ digits (suc k) v

@@ -1,6 +1,7 @@
 -- The text of a schedule is read as the schedule: each line ahead is read as what it is, and then the next one lies ahead.
 -- Assumes nothing.
-use Rattle.std.proofs.Common.{◌≡◌, refl, ap, sym, subst, ◌∙◌, ◌≢◌, ◌⊎◌, ⊎_elim, Bool, true, false, ◌&&◌, ◌||◌, List, [], ◌∷◌, ◌++◌, append-nil, ℕ, zero, suc}
+use Rattle.std.proofs.lemmas.Bool.Decides.{nat_tests}
+use Rattle.std.proofs.Common.{◌≡◌, refl, ap, sym, subst, ◌∙◌, ◌≢◌, ◌⊎◌, Bool, true, false, ◌&&◌, ◌||◌, List, [], ◌∷◌, ◌++◌, append-nil, ℕ, zero, suc}
 use Rattle.std.proofs.Common.{◌+◌, ◌*◌, ◌<◌, ◌≤◌, arith, length, get_or, length-append, eqb, leb, le-leb, eq-eqb, ne_eqb, eqb-true}
 use borrow.Author.Tests.{eqb-false}
 use Rattle.text.specs.Reading.{lost, word, digit_of, number_at}
@@ -46,15 +47,12 @@ use Rattle.grammar.proofs.Lies.{
 
 -- what is lost unless a word was found, is lost
 lost_if : (next found : ℕ) (t : Bool) → eqb next lost ≡ t → (next ≢ lost → found ≢ lost) → found ≡ lost → t ≡ true
-lost_if next found true e f g = refl
-lost_if next found false e f g = absurd (f (eqb-false next lost e) g)
+lost_if next found t e f g = grind (arith, f)
 
 -- no verb starts with a digit
 verb_first : (code : ℕ) (ahead : List ℕ) → digit_of (get_or (verb_text code ++ ahead) 0 0) ≡ 10
 unfolding verb_text digit_of
-verb_first code ahead =
-    let P : List ℕ → Type 0 = λ w. digit_of (get_or (w ++ ahead) 0 0) ≡ 10 in
-    on_cond P (eqb code 0) _ _ (λ e. refl) (λ e. on_cond P (eqb code 1) _ _ (λ f. refl) (λ f. refl))
+verb_first code ahead = grind arith
 
 module _ (text : List ℕ) (L : length text ≤ 65536) where
   kept : {at : ℕ} {ahead : List ℕ} → Lies text at ahead → eqb at lost ≡ false
@@ -193,9 +191,7 @@ module _ (text : List ℕ) (L : length text ≤ 65536) where
       (rw (le-leb 1 n good.0, le-leb n 16 good.1) refl) l
 
   nodes_test : (n : ℕ) → (n ≡ 0) ⊎ ((4 ≤ n) × (n ≤ 4096)) → (n < 100000) × (eqb n 0 || (leb 4 n && leb n 4096) ≡ true)
-  nodes_test n =
-      ⊎_elim (λ (e : n ≡ 0). (omega arith, rw (eq-eqb n 0 e) refl))
-      (λ w. (omega (arith, w), rw (ne_eqb n 0 (λ e. omega (arith, w)), le-leb 4 n w.0, le-leb n 4096 w.1) refl))
+  nodes_test n h = (grind (arith, h), grind (arith, nat_tests, h))
 
   nodes_lies : (n : ℕ) (ahead : List ℕ) {at : ℕ} → (n ≡ 0) ⊎ ((4 ≤ n) × (n ≤ 4096))
       → Lies text at (number_text "nodes=" n ++ ahead)
