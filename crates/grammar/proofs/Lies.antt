@@ -46,9 +46,13 @@ module _ {text : List ℕ} where
         path = ap (drop (length front)) e ∙ drop-append_seam front ahead;
       }
 
+  -- what lies ahead reaches to the end of the text
+  lies_long : {at : ℕ} (ahead : List ℕ) → Lies text at ahead → at + length ahead ≡ length text
+  lies_long {at = at} ahead l = omega (arith, l.fits, sym (length-drop at text) ∙ ap length l.path)
+
   -- where nothing lies ahead, the text ends
   pub lies_end : {at : ℕ} → Lies text at [] → at ≡ length text
-  lies_end {at = at} l = omega (arith, l.fits, sym (length-drop at text) ∙ ap length l.path)
+  lies_end l = omega (arith, lies_long [] l)
 
   -- ---- a byte and a word
 
@@ -58,7 +62,7 @@ module _ {text : List ℕ} where
         ap (byte_at text) (sym (add-zero at)) ∙ sym (get_or-drop at text 0 0) ∙ ap (λ (x : List ℕ). get_or x 0 0) l.path
 
     byte_within : at < length text
-    byte_within = omega (arith, l.fits, sym (length-drop at text) ∙ ap length l.path)
+    byte_within = omega (arith, lies_long (b ∷ ahead) l)
 
     after_lies : Lies text (place_after text at) ahead
     unfolding place_after

@@ -80,16 +80,14 @@ pub record Hex (text : List ℕ) (at next : ℕ) : Type 0 where
 module _ (text : List ℕ) (L : length text ≤ 65536) where
   -- ---- a byte and a word
 
-  after_if : (at : ℕ) (b : Bool) → ltb at (length text) ≡ b → cond b (at + 1) lost ≢ lost
-      → Stands text at (byte_at text at ∷ []) (cond b (at + 1) lost)
-  after_if at true e h =
-      let l : at < length text = ltb-true at (length text) e in
-      record { kept = λ (x : at ≡ lost). omega arith; path = rw (add-one at, drop-cons text at 0 l) }
-  after_if at false e h = absurd (h refl)
-
   pub byte_stands : (at : ℕ) → place_after text at ≢ lost → Stands text at (byte_at text at ∷ []) (place_after text at)
   unfolding place_after
-  byte_stands at h = after_if at (ltb at (length text)) refl h
+  byte_stands at h =
+      let inside : at < length text = grind (arith, h) in
+      record {
+        kept = λ (x : at ≡ lost). omega (arith, inside);
+        path = rw (lt-ltb at (length text) inside, add-one at, drop-cons text at 0 inside);
+      }
 
   pub word_stands : (w : List ℕ) (at : ℕ) → word text at w ≢ lost → Stands text at w (word text at w)
   unfolding word
