@@ -1,7 +1,8 @@
 -- A text without a bad line is the text of a schedule: line by line, what was read is an item, and stands as it is written.
 -- Assumes nothing.
 use Rattle.std.proofs.lemmas.Bool.Decides.{nat_tests}
-use Rattle.std.proofs.Common.{◌≡◌, refl, ap, sym, subst, ◌∙◌, ◌≢◌, ◌⊎◌, inl, inr, Bool, true, false, cond, ◌&&◌, ◌||◌, true≢false, List, [], ◌∷◌, ◌++◌}
+use Rattle.std.proofs.lemmas.Option.{none-some}
+use Rattle.std.proofs.Common.{Option, None, ◌≡◌, refl, ap, sym, subst, ◌∙◌, ◌≢◌, ◌⊎◌, inl, inr, Bool, true, false, cond, ◌&&◌, ◌||◌, true≢false, List, [], ◌∷◌, ◌++◌}
 use Rattle.std.proofs.Common.{append-nil, ℕ, zero, suc, ◌+◌, ◌<◌, ◌≤◌, arith, length, eqb, leb, leb-true}
 use Rattle.std.proofs.Math.Seq.{drop-length}
 use borrow.Author.Tests.{eqb-false}
@@ -48,7 +49,7 @@ record BodyAt (text : List ℕ) (seen at : ℕ) : Type 0 where
   ends : Stands text last (number_text "end=" (seen + length items)) (length text)
 
 -- `end=` is good if it gives the number of lines and is the last
-end_good : (seen count next len : ℕ) → end_bad seen count next len ≡ 0 → (count ≡ seen) × (next ≡ len)
+end_good : (seen count next len : ℕ) → end_bad seen count next len ≡ None → (count ≡ seen) × (next ≡ len)
 unfolding end_bad
 end_good seen count next len z = (grind arith, grind arith)
 
@@ -120,7 +121,7 @@ module _ (text : List ℕ) (L : length text ≤ 65536) where
   abbrev LineAt : ℕ → Line → Type 0
   LineAt at l =
       (ends_body l ≡ false → ItemAt text at (next_of l))
-      × ((seen : ℕ) → last_bad seen l (length text) ≡ 0 → Stands text at (number_text "end=" seen) (length text))
+      × ((seen : ℕ) → last_bad seen l (length text) ≡ None → Stands text at (number_text "end=" seen) (length text))
 
   line_at_lem : (at : ℕ) → LineAt at (line_at text at)
   unfolding line_at last_bad
@@ -131,18 +132,18 @@ module _ (text : List ℕ) (L : length text ≤ 65536) where
       on_cond (LineAt at) (eqb c.next lost) _ _
       (λ p. on_cond (LineAt at) (eqb s.next lost) _ _
       (λ q. on_cond (LineAt at) (eqb e.next lost) _ _
-      (λ r. (λ t. absurd (true≢false t), λ seen z. absurd (omega arith)))
+      (λ r. (λ t. absurd (true≢false t), λ seen z. absurd (none-some _ (sym z))))
       (λ r. (
         λ t. absurd (true≢false t),
         λ seen z.
             let g = end_good seen e.value e.next (length text) z in
             renumber g.0 (upto (end_stands at (eqb-false e.next lost r)) g.1),
       )))
-      (λ q. (λ t. step_stands at (eqb-false s.next lost q), λ seen z. absurd (omega arith))))
-      (λ p. (λ t. (call_stands at (eqb-false c.next lost p)).1, λ seen z. absurd (omega arith)))
+      (λ q. (λ t. step_stands at (eqb-false s.next lost q), λ seen z. absurd (none-some _ (sym z)))))
+      (λ p. (λ t. (call_stands at (eqb-false c.next lost p)).1, λ seen z. absurd (none-some _ (sym z))))
 
-  abbrev BodyIf : (seen at bad : ℕ) → Type 0
-  BodyIf seen at bad = bad ≡ 0 → BodyAt text seen at
+  abbrev BodyIf : (seen at : ℕ) → Option ℕ → Type 0
+  BodyIf seen at bad = bad ≡ None → BodyAt text seen at
 
   none_before : (seen at : ℕ) → Stands text at (number_text "end=" seen) (length text) → BodyAt text seen at
   none_before seen at s =
@@ -166,7 +167,7 @@ module _ (text : List ℕ) (L : length text ≤ 65536) where
 
   body_at : (left seen at : ℕ) → BodyIf seen at (bad_from text seen at left)
   unfolding bad_from
-  body_at zero seen at = λ z. absurd (omega arith)
+  body_at zero seen at = λ z. absurd (none-some _ (sym z))
   body_at (suc left) seen at =
       let l = line_at text at in
       let w = line_at_lem at in
@@ -208,8 +209,8 @@ module _ (text : List ℕ) (L : length text ≤ 65536) where
       (nodes_good v (eqb v 0) refl s.0, s.1)
 
 -- a head that is good, and a body that is
-head_good : (text : List ℕ) → first_bad text (head_of text) ≡ 0
-    → ((head_of text).bad ≡ 0) × (bad_from text 0 (head_of text).next (most_lines text) ≡ 0)
+head_good : (text : List ℕ) → first_bad text (head_of text) ≡ None
+    → ((head_of text).bad ≡ None) × (bad_from text 0 (head_of text).next (most_lines text) ≡ None)
 unfolding first_bad
 head_good text z = (grind arith, grind arith)
 

@@ -1,7 +1,7 @@
 -- The text of a schedule is read as the schedule: each line ahead is read as what it is, and then the next one lies ahead.
 -- Assumes nothing.
 use Rattle.std.proofs.lemmas.Bool.Decides.{nat_tests}
-use Rattle.std.proofs.Common.{◌≡◌, refl, ap, sym, subst, ◌∙◌, ◌≢◌, ◌⊎◌, Bool, true, false, ◌&&◌, ◌||◌, List, [], ◌∷◌, ◌++◌, append-nil, ℕ, zero, suc}
+use Rattle.std.proofs.Common.{None, ◌≡◌, refl, ap, sym, subst, ◌∙◌, ◌≢◌, ◌⊎◌, Bool, true, false, ◌&&◌, ◌||◌, List, [], ◌∷◌, ◌++◌, append-nil, ℕ, zero, suc}
 use Rattle.std.proofs.Common.{◌+◌, ◌*◌, ◌<◌, ◌≤◌, arith, length, get_or, length-append, eqb, leb, le-leb, eq-eqb, ne_eqb}
 use Rattle.text.specs.Reading.{lost, word, digit_of, number_at}
 use Rattle.logic.specs.Quoted.{bytes}
@@ -140,7 +140,7 @@ module _ (text : List ℕ) (L : length text ≤ 65536) where
   end_lies n short l = line_lies "end=" (λ v. true) n [] short refl l
 
   last_lies : (seen : ℕ) {at : ℕ} → seen < 100000 → Lies text at (number_text "end=" seen ++ [])
-      → (ends_body (line_at text at) ≡ true) × (last_bad seen (line_at text at) (length text) ≡ 0)
+      → (ends_body (line_at text at) ≡ true) × (last_bad seen (line_at text at) (length text) ≡ None)
   unfolding line_at last_bad end_bad
   last_lies seen {at = at} short l =
       let e = end_lies seen short l in
@@ -158,7 +158,7 @@ module _ (text : List ℕ) (L : length text ≤ 65536) where
 
   body_good : (items : List Item) (left seen count : ℕ) {at : ℕ} → GoodItems items → length items < left
       → count ≡ seen + length items → count < 100000 → Lies text at (items_text items ++ (number_text "end=" count ++ []))
-      → (bad_from text seen at left ≡ 0) × AllSay (body_from text at left) items
+      → (bad_from text seen at left ≡ None) × AllSay (body_from text at left) items
   unfolding bad_from body_from
   body_good items zero seen count good enough e short l = absurd (omega arith)
   body_good [] (suc left) seen count {at = at} good enough e short l =

@@ -1,6 +1,6 @@
 -- The fuel that the two readings of a body are allowed is enough, and a good head sets what a list can be set up with.
 -- Assumes nothing.
-use Rattle.std.proofs.Common.{◌≡◌, false, List, ℕ, zero, suc, ◌+◌, ◌*◌, ◌<◌, ◌≤◌, suc-add, arith, length, eqb}
+use Rattle.std.proofs.Common.{None, ◌≡◌, false, List, ℕ, zero, suc, ◌+◌, ◌*◌, ◌<◌, ◌≤◌, suc-add, arith, length, eqb}
 use Rattle.std.proofs.lemmas.Bool.{eqb-false}
 use Rattle.std.proofs.lemmas.Bool.Decides.{nat_tests}
 use Rattle.text.specs.Reading.{lost}
@@ -42,7 +42,7 @@ Kept text =
     let n = (nodes_line text p).next in
     (eqb p lost ≡ false) × (eqb n lost ≡ false) × (eqb (order_line text n).next lost ≡ false)
 
-pub kept : (text : List ℕ) → (head_of text).bad ≡ 0 → Kept text
+pub kept : (text : List ℕ) → (head_of text).bad ≡ None → Kept text
 unfolding head_of first_lost
 kept text e = (grind arith, grind arith, grind arith)
 

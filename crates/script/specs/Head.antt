@@ -1,5 +1,5 @@
 -- The head of a schedule: its first three lines (document 01, "The schedule program").
-use Rattle.std.specs.Prelude.{List, cond, ◌&&◌, ◌||◌, ℕ, eqb, leb}
+use Rattle.std.specs.Prelude.{Option, None, Some, List, cond, ◌&&◌, ◌||◌, ℕ, eqb, leb}
 use Rattle.text.specs.Reading.{lost, word, only, numeral, number_at}
 use Rattle.logic.specs.Quoted.{bytes}
 use Rattle.text.specs.declared.Reading.{Reading}
@@ -32,9 +32,10 @@ order_line text at =
 
 -- ---- the three together
 
--- the number of the first of the three lines that is lost, or 0
-unfoldable pub first_lost : (parties nodes order : ℕ) → ℕ
-first_lost parties nodes order = cond (eqb parties lost) 1 (cond (eqb nodes lost) 2 (cond (eqb order lost) 3 0))
+-- the number of the first of the three lines that is lost
+unfoldable pub first_lost : (parties nodes order : ℕ) → Option ℕ
+first_lost parties nodes order =
+    cond (eqb parties lost) (Some 1) (cond (eqb nodes lost) (Some 2) (cond (eqb order lost) (Some 3) None))
 
 -- each line starts where the one before it ends; in a head with a bad line the other values mean nothing
 unfoldable pub head_of : List ℕ → Head

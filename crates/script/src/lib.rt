@@ -31,16 +31,15 @@ pub enum Line {
     Bad,
 }
 
-// The first three lines: what they set, the place behind them, and the number of the first that breaks the rules, or 0.
-// `bad` stays a number, as `first_bad` answers one: GoodHead, FuelNeverDecides, OnlyWritten, ReadAs compare it with 0.
-// `order` stays the code that `list_play::play_line` takes.
+// The first three lines: what they set, the place behind them, and the number of the first that breaks the rules.
+// `order` stays a code, the one that `list_play::play_line` takes.
 #[derive(Clone, Copy)]
 pub struct Head {
     pub parties: u32,
     pub nodes: u32,
     pub order: u32,
     pub next: usize,
-    pub bad: usize,
+    pub bad: Option<usize>,
 }
 
 // The call that is named here, with a space on both sides.
@@ -205,15 +204,15 @@ fn order_line(text: &[u8], at: usize) -> Reading<u32>
     }
 }
 
-// The number of the first of the three lines that is lost, or 0.
+// The number of the first of the three lines that is lost.
 #[tactic(auto, unfolding(crate::specs::Head::first_lost))]
-fn first_lost(parties: usize, nodes: usize, order: usize) -> usize
+fn first_lost(parties: usize, nodes: usize, order: usize) -> Option<usize>
     ensures { result ≡ first_lost parties nodes order }
 {
     [parties, nodes, order]
         .iter()
         .position(|&next| next == LOST)
-        .map_or(0, |line| line + 1)
+        .map(|line| line + 1)
 }
 
 // The head of a text.
@@ -234,18 +233,18 @@ pub fn read_head(text: &[u8]) -> Head
     }
 }
 
-// The bad line that a line without call and step leads to, or 0. An `end=` is bad itself if it gives another number
+// The bad line that a line without call and step leads to. An `end=` is bad itself if it gives another number
 // than that of the lines before it, and leads to the next line if bytes follow it.
 #[tactic(auto, unfolding(crate::specs::Body::last_bad, crate::specs::Body::end_bad))]
-fn last_bad(seen: usize, line: Line, len: usize) -> usize
+fn last_bad(seen: usize, line: Line, len: usize) -> Option<usize>
     requires { seen < 9223372036854775808 }
     ensures { result ≡ last_bad seen line len }
 {
     match line {
         Line::End(count, next) if count as usize == seen => {
-            if next == len { 0 } else { seen + 5 }
+            if next == len { None } else { Some(seen + 5) }
         }
-        _ => seen + 4,
+        _ => Some(seen + 4),
     }
 }
 
@@ -257,9 +256,9 @@ pub fn most_lines(text: &[u8]) -> usize
     text.len() / 6
 }
 
-// The number of the first bad line of a body that starts at a place, or 0.
+// The number of the first bad line of a body that starts at a place.
 #[tactic(auto, unfolding(crate::specs::Body::most_lines, crate::specs::Body::bad_from), using(text::proofs::Laws::rest))]
-fn body_bad(text: &[u8], from: usize) -> usize
+fn body_bad(text: &[u8], from: usize) -> Option<usize>
     ensures { result ≡ bad_from text.now 0 from (most_lines text.now) }
 {
     let mut at = from;
@@ -271,16 +270,13 @@ fn body_bad(text: &[u8], from: usize) -> usize
         }
         at = next_of(line);
     }
-    most + 4
+    Some(most + 4)
 }
 
-// The number of the first bad line of a text with this head, or 0.
+// The number of the first bad line of a text with this head.
 #[tactic(auto, unfolding(crate::specs::Body::first_bad))]
-pub fn first_bad(text: &[u8], head: Head) -> usize
+pub fn first_bad(text: &[u8], head: Head) -> Option<usize>
     ensures { result ≡ first_bad text.now head }
 {
-    match head.bad {
-        0 => body_bad(text, head.next),
-        bad => bad,
-    }
+    head.bad.or_else(|| body_bad(text, head.next))
 }
