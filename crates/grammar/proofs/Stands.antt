@@ -3,7 +3,7 @@
 use Rattle.std.proofs.Common.{◌≡◌, refl, ap, sym, subst, ◌∙◌, ◌≢◌, Bool, true, false, cond, List, [], ◌∷◌, ◌++◌, append_assoc, ℕ, zero, suc, ◌+◌, ◌*◌}
 use Rattle.std.proofs.Common.{◌/◌, ◌%◌, ◌^◌, ◌<◌, ◌≤◌, pow-suc, add-one, arith, length, drop, drop-cons, eqb, ltb, ltb-true, lt-ltb, eqb-true}
 use Prim.Native.String.{String}
-use borrow.Author.Tests.{eqb-false}
+use Rattle.std.proofs.lemmas.Bool.{eqb-false}
 use Rattle.text.specs.Reading.{lost, byte_at, place_after, word, only, digit_of, numeral, first_digit, next_digit, number_at, hex_of, no_pair, pair_at}
 use Rattle.text.specs.Reading.{field_at}
 use Rattle.logic.specs.Quoted.{bytes}

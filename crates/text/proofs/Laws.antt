@@ -12,6 +12,6 @@ abbrev pub more_digits : List ℕ → Reading ℕ → ℕ → Reading ℕ
 more_digits text n zero = n
 more_digits text n (suc k) = more_digits text (next_digit text n) k
 
--- what is left is one and the rest
-pub rest : (all done : ℕ) → done < all → all - done ≡ suc (all - (done + 1))
-rest all done h = omega (arith, h)
+-- what is left is one and the others
+pub one_left : (all done : ℕ) → done < all → all - done ≡ suc (all - (done + 1))
+one_left all done h = omega (arith, h)

@@ -109,7 +109,7 @@ fn next_digit(text: &[u8], n: Reading<u32>) -> Reading<u32>
 
 // The decimal number that stands here. Of a longer one only five digits are read,
 // and what follows is then no end of a line.
-#[tactic(auto, using(crate::proofs::Laws::rest))]
+#[tactic(auto, using(crate::proofs::Laws::one_left))]
 pub fn read_number(text: &[u8], at: usize) -> Reading<u32>
     ensures { result ≡ number_at text.now at }
 {
