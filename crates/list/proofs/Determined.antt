@@ -23,7 +23,7 @@ use Rattle.list.proofs.step.Reads as step
 use Rattle.list.proofs.listing.Reads as listing
 
 -- two outcomes that read the same in the document's terms are the same
-left_told : (M A B : Type 0) (read : A → B) → ((x y : A) → read x ≡ read y → x ≡ y) →
+pub left_told : (M A B : Type 0) (read : A → B) → ((x y : A) → read x ≡ read y → x ≡ y) →
     (m₁ m₂ : M) (answer₁ answer₂ : Result A Refusal) → left m₁ (answer_is read answer₁) ≡ left m₂ (answer_is read answer₂) →
     ◌≡◌ {A = M × Result A Refusal} (m₁, answer₁) (m₂, answer₂)
 left_told M A B read told m₁ m₂ answer₁ answer₂ e =
