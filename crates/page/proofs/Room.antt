@@ -1,10 +1,11 @@
 -- What a buffer holds once bytes were put into it, and how many digits a number has.
 -- Assumes nothing.
-use Rattle.std.proofs.Common.{◌≡◌, refl, ap, ◌∙◌, Bool, true, false, cond, List, [], ◌∷◌, ◌++◌, ℕ, zero, suc, ◌+◌, ◌/◌, ◌%◌, ◌^◌, ◌<◌, ◌≤◌, suc-add, pow-suc}
+use Rattle.std.proofs.Common.{◌≡◌, refl, ap, ◌∙◌, Bool, true, false, cond, List, [], ◌∷◌, ◌++◌, ℕ, zero, suc, ◌+◌, ◌/◌, ◌%◌, ◌<◌, ◌≤◌}
 use Rattle.std.proofs.Common.{add-one, arith, length, take, set, length-set, length-append, ltb, lt-ltb}
 use Rattle.std.proofs.Math.Seq.{sets, sets-eq, take-set-le}
 use Rattle.logic.proofs.Cases.{on_cond}
 use Rattle.page.specs.Page.{Page, page, put_byte, put, digits}
+use Rattle.page.proofs.Laws.{digits_enough}
 use Rattle.page.specs.Claims.{Room, KeepsBefore, DigitsAreFew, DecimalIsWhole}
 
 -- ---- bytes
@@ -55,15 +56,6 @@ digits_are_few (suc most) n =
     let fewer = digits_are_few most (n / 10) in
     on_cond (λ l. length l ≤ suc most) (ltb n 10) ((48 + n) ∷ []) (digits most (n / 10) ++ ((48 + n % 10) ∷ []))
     (λ one. omega arith) (λ more. simp length-append (omega arith))
-
--- a number below a power of ten has no more digits than the power has zeros
-digits_enough : (k n more : ℕ) → n < 10 ^ suc k → digits (suc k + more) n ≡ digits (suc k) n
-unfolding digits
-digits_enough zero n more h = rw (suc-add zero more, lt-ltb n 10 h)
-digits_enough (suc k) n more h =
-    let smaller : n / 10 < 10 ^ suc k = omega (arith, rw (pow-suc 10 (suc k)) at h) in
-    ap (λ (m : ℕ). digits m n) (suc-add (suc k) more)
-    ∙ ap (λ (l : List ℕ). cond (ltb n 10) ((48 + n) ∷ []) (l ++ ((48 + n % 10) ∷ []))) (digits_enough k (n / 10) more smaller)
 
 pub decimal_is_whole : DecimalIsWhole
 decimal_is_whole n more h = digits_enough 19 n more h

@@ -2,6 +2,7 @@
 use Rattle.std.specs.Prelude.{◌≡◌, List, [], ◌∷◌, ◌++◌, cond, ℕ, zero, suc, ◌+◌, ◌/◌, ◌%◌, length, set, ltb}
 use Rattle.std.specs.Borrow.{MutBor}
 use denote.Triple.Both.{Both}
+use Rattle.page.specs.declared.Page as lent
 
 -- a buffer, and the place of the next byte
 pub record Page : Type 0 where
@@ -33,6 +34,19 @@ Buffer = Both (MutBor (List ℕ)) (MutBor (List ℕ))
 -- from this place on these bytes are put into the buffer, and the next byte goes to the last place
 abbrev pub Puts : Buffer → (to : ℕ) → (bytes : List ℕ) → (next : ℕ) → Type 0
 Puts out to bytes next = Wrote (page out.entry.now to) bytes (page out.exit.now next)
+
+-- what a lent page is: what its buffer holds, and the place of the next byte
+abbrev pub page_of : lent.Page → Page
+page_of p = page p.out.now p.at
+
+-- a page that nothing is put on yet, in this buffer
+abbrev pub StartsIn : MutBor (List ℕ) → lent.Page → Type 0
+StartsIn out p = (page_of p ≡ page out.now 0) × (p.out.ghost_name ≡ out.ghost_name)
+
+-- these bytes are put on a lent page, and into the buffer that it was made of
+abbrev pub PutsOn : Both (MutBor lent.Page) (MutBor lent.Page) → (bytes : List ℕ) → Type 0
+PutsOn p bytes =
+    (page_of p.exit.now ≡ put (page_of p.entry.now) bytes) × (p.exit.now.out.ghost_name ≡ p.entry.now.out.ghost_name)
 
 -- ---- numbers
 

@@ -1,12 +1,17 @@
--- The keys from a place on, as the loop over them writes them.
+-- The lines of the first keys of several, as the loop over them puts them.
 -- Assumes nothing.
-use Rattle.std.proofs.Common.{◌≡◌, List, [], ◌++◌, ℕ, ◌+◌, ◌<◌, ◌≤◌, add-one, length, get_or, drop, drop_of_length-le, drop-cons}
+use Rattle.std.proofs.Common.{◌≡◌, refl, List, [], ℕ, ◌+◌, ◌<◌, length, get_or, take}
+use Rattle.page.specs.Page.{Page, put}
+use Rattle.page.proofs.Laws.{put_nothing, each_more}
 use Rattle.report.specs.Lines.{key_line, key_lines}
 
-pub keys_on : (keys : List ℕ) (i : ℕ) → i < length keys → key_lines (drop i keys) ≡ key_line (get_or keys i 0) ++ key_lines (drop (i + 1) keys)
+-- no key
+pub keys_nothing : (p : Page) → put p (key_lines []) ≡ p
 unfolding key_lines
-keys_on keys i h = rw (add-one i, drop-cons keys i 0)
+keys_nothing = put_nothing
 
-pub keys_end : (keys : List ℕ) (i : ℕ) → length keys ≤ i → key_lines (drop i keys) ≡ []
+-- one key more
+pub keys_more : (p : Page) (keys : List ℕ) (i : ℕ) → i < length keys →
+    put p (key_lines (take (i + 1) keys)) ≡ put (put p (key_lines (take i keys))) (key_line (get_or keys i 0))
 unfolding key_lines
-keys_end keys i h = rw drop_of_length-le
+keys_more p keys i = each_more key_lines key_line refl (λ first rest. refl) p keys i 0

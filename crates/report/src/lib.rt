@@ -1,10 +1,10 @@
 // The lines of a schedule's output: answers and refusals, then keys and tallies; or the bad line.
 #![tactic(auto)]
 
-ghost use Rattle.std.specs.Prelude.{◌≡◌};
 ghost use Rattle.calls.specs.Calls.{name_of};
 ghost use Rattle.calls.specs.Words.{word_of, reply_is};
-ghost use Rattle.page.specs.Page.{Puts};
+ghost use Rattle.page.specs.Page.{PutsOn};
+ghost use Rattle.refusal.specs.Number.{number_of};
 ghost use Rattle.report.specs.Lines.{
   asked_text,
   answer_line,
@@ -18,124 +18,127 @@ ghost use Rattle.report.specs.Lines.{
   bad_line,
 };
 
-use calls::{Asked, Call, Reply, Said, Tallies};
-use page::{put, put_number};
+use calls::{Asked, Call, Said, Tallies};
+use page::Page;
+use refusal::Refusal;
 
 // The name of a call.
-fn put_call(out: &mut [u8], to: usize, call: Call) -> usize
-    ensures { Puts out to (name_of call) result }
+fn put_call(page: &mut Page, call: Call)
+    ensures { PutsOn page (name_of call) }
 {
     match call {
-        Call::Add => put(out, to, b"add"),
-        Call::Remove => put(out, to, b"remove"),
-        Call::Contains => put(out, to, b"contains"),
+        Call::Add => page.put(b"add"),
+        Call::Remove => page.put(b"remove"),
+        Call::Contains => page.put(b"contains"),
     }
 }
 
 // The call and the key.
-fn put_asked(out: &mut [u8], to: usize, asked: Asked) -> usize
-    ensures { Puts out to (asked_text asked) result }
+#[tactic(auto, using(page::proofs::Laws::put_put), unfolding(crate::specs::Lines::asked_text))]
+fn put_asked(page: &mut Page, asked: Asked)
+    ensures { PutsOn page (asked_text asked) }
 {
-    let call = asked.call;
-    let a = put_call(out, to, call);
-    let b = put(out, a, b" ");
-    put_number(out, b, asked.key as u64)
+    put_call(page, asked.call);
+    page.put(b" ");
+    page.put_number(asked.key as u64);
 }
 
 // answer=P call key, and yes or no
-fn put_answer(out: &mut [u8], to: usize, party: u32, asked: Asked, word: &[u8]) -> usize
-    ensures { Puts out to (answer_line party asked word.now) result }
+#[tactic(auto, using(page::proofs::Laws::put_put), unfolding(crate::specs::Lines::answer_line))]
+fn put_answer(page: &mut Page, party: u32, asked: Asked, word: &[u8])
+    ensures { PutsOn page (answer_line party asked word.now) }
 {
-    let a = put(out, to, b"answer=");
-    let b = put_number(out, a, party as u64);
-    let c = put(out, b, b" ");
-    let d = put_asked(out, c, asked);
-    let e = put(out, d, b" ");
-    let f = put(out, e, word);
-    put(out, f, b"\n")
+    page.put(b"answer=");
+    page.put_number(party as u64);
+    page.put(b" ");
+    put_asked(page, asked);
+    page.put(b" ");
+    page.put(word);
+    page.put(b"\n");
 }
 
 // refused=line number
-fn put_refused(out: &mut [u8], to: usize, line: usize, number: u8) -> usize
-    ensures { Puts out to (refused_line line number) result }
+#[tactic(auto, using(page::proofs::Laws::put_put), unfolding(crate::specs::Lines::refused_line))]
+fn put_refused(page: &mut Page, line: usize, why: Refusal)
+    ensures { PutsOn page (refused_line line (number_of why)) }
 {
-    let a = put(out, to, b"refused=");
-    let b = put_number(out, a, line as u64);
-    let c = put(out, b, b" ");
-    let d = put_number(out, c, number as u64);
-    put(out, d, b"\n")
+    page.put(b"refused=");
+    page.put_number(line as u64);
+    page.put(b" ");
+    page.put_number(why.number() as u64);
+    page.put(b"\n");
 }
 
 // What is printed for something heard: nothing until the answer falls.
-fn put_heard(out: &mut [u8], to: usize, party: u32, asked: Asked, said: Said) -> usize
-    ensures { Puts out to (heard party asked (word_of said)) result }
+#[tactic(auto, using(page::proofs::Laws::put_nothing), unfolding(crate::specs::Lines::heard))]
+fn put_heard(page: &mut Page, party: u32, asked: Asked, said: Said)
+    ensures { PutsOn page (heard party asked (word_of said)) }
 {
     match said {
-        Said::Nothing => to,
-        Said::Yes => put_answer(out, to, party, asked, b"yes"),
-        Said::No => put_answer(out, to, party, asked, b"no"),
+        Said::Nothing => (),
+        Said::Yes => put_answer(page, party, asked, b"yes"),
+        Said::No => put_answer(page, party, asked, b"no"),
     }
 }
 
 // What is printed for the line of this number, by which a party that had been asked this was moved or called.
+#[tactic(auto, unfolding(crate::specs::Lines::reply_line))]
 pub fn put_reply(
-    out: &mut [u8],
-    to: usize,
+    page: &mut Page,
     line: usize,
     party: u32,
     asked: Asked,
-    reply: Reply,
-) -> usize
-    ensures { Puts out to (reply_line line party asked (reply_is reply)) result }
+    reply: Result<Said, Refusal>,
+)
+    ensures { PutsOn page (reply_line line party asked (reply_is reply)) }
 {
     match reply {
-        Reply::Heard(said) => put_heard(out, to, party, asked, said),
-        Reply::Refused(why) => put_refused(out, to, line, why.number()),
+        Ok(said) => put_heard(page, party, asked, said),
+        Err(why) => put_refused(page, line, why),
     }
 }
 
 // A word, a number and LF.
-fn put_numbered(out: &mut [u8], to: usize, word: &[u8], n: u64) -> usize
-    ensures { Puts out to (number_line word.now n) result }
+#[tactic(auto, using(page::proofs::Laws::put_put), unfolding(crate::specs::Lines::number_line))]
+fn put_numbered(page: &mut Page, word: &[u8], n: u64)
+    ensures { PutsOn page (number_line word.now n) }
 {
-    let a = put(out, to, word);
-    let b = put_number(out, a, n);
-    put(out, b, b"\n")
+    page.put(word);
+    page.put_number(n);
+    page.put(b"\n");
 }
 
-// bad= and a line's number, at the start of the buffer
-pub fn put_bad(out: &mut [u8], line: usize) -> usize
-    ensures { Puts out 0 (bad_line line) result }
+// bad= and a line's number
+pub fn put_bad(page: &mut Page, line: usize)
+    ensures { PutsOn page (bad_line line) }
 {
-    put_numbered(out, 0, b"bad=", line as u64)
+    put_numbered(page, b"bad=", line as u64);
 }
 
 // key= and a key
-fn put_key(out: &mut [u8], to: usize, key: u32) -> usize
-    ensures { Puts out to (key_line key) result }
+fn put_key(page: &mut Page, key: u32)
+    ensures { PutsOn page (key_line key) }
 {
-    put_numbered(out, to, b"key=", key as u64)
+    put_numbered(page, b"key=", key as u64);
 }
 
 // One line for each key.
-pub fn put_keys(out: &mut [u8], to: usize, keys: &[u32]) -> usize
-    ensures { Puts out to (key_lines keys.now) result }
+#[tactic(auto, using(crate::proofs::Laws::keys_nothing, crate::proofs::Laws::keys_more))]
+pub fn put_keys(page: &mut Page, keys: &[u32])
+    ensures { PutsOn page (key_lines keys.now) }
 {
-    let mut i = 0;
-    let mut at = to;
-    while i < keys.len() {
-        at = put_key(out, at, keys[i]);
-        i += 1;
+    for &key in keys {
+        put_key(page, key);
     }
-    at
 }
 
 // moves=, won=, lost= and taken=
-pub fn put_tallies(out: &mut [u8], to: usize, tallies: Tallies, taken: u16) -> usize
-    ensures { Puts out to (tally_lines tallies taken) result }
+#[tactic(auto, using(page::proofs::Laws::put_put), unfolding(crate::specs::Lines::tally_lines))]
+pub fn put_tallies(page: &mut Page, tallies: Tallies, taken: u16)
+    ensures { PutsOn page (tally_lines tallies taken) }
 {
-    let a = put_numbered(out, to, b"moves=", tallies.moves as u64);
-    let b = put_numbered(out, a, b"won=", tallies.won as u64);
-    let c = put_numbered(out, b, b"lost=", tallies.lost as u64);
-    put_numbered(out, c, b"taken=", taken as u64)
+    put_numbered(page, b"moves=", tallies.moves as u64);
+    put_numbered(page, b"won=", tallies.won as u64);
+    put_numbered(page, b"lost=", tallies.lost as u64);
+    put_numbered(page, b"taken=", taken as u64);
 }
