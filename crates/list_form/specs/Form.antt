@@ -1,5 +1,6 @@
 -- Good form as one test that computes: a definition for each thing that it asks (document 01, "Rows and parties").
 use Rattle.std.specs.Prelude.{List, Bool, true, false, not, cond, ◌&&◌, ◌||◌, ℕ, ◌+◌, length, eqb, ltb, leb}
+use Rattle.std.specs.List.{list_all, enumerate_from}
 use Rattle.logic.specs.Every.{every}
 use Rattle.columns.specs.Column.{at}
 use Rattle.list_rows.specs.Table.{Table}
@@ -42,6 +43,10 @@ key_fits taken row key = ltb row taken || eqb key 0
 -- every next and back is below T, and 0 in rows from T on
 abbrev pub link_fits : (taken row to : ℕ) → Bool
 link_fits taken row to = cond (ltb row taken) (ltb to taken) (eqb to 0)
+
+-- one entry after another with its place, from the first on
+abbrev pub rows_pass : {A : Type 0} → (fits : ℕ → A → Bool) → List A → Bool
+rows_pass fits column = list_all (λ entry. fits entry.0 entry.1) (enumerate_from 0 column)
 
 unfoldable pub kinds_fit : List ℕ → (taken : ℕ) → Bool
 kinds_fit kind taken = every (λ row. kind_fits taken row (at kind row)) (length kind)

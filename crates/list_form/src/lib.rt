@@ -2,7 +2,7 @@
 #![tactic(auto)]
 
 ghost use Rattle.std.specs.Prelude.{◌≡◌, ◌+◌, length};
-ghost use Rattle.list_rows.specs.Table.{before};
+ghost use Rattle.list_rows.specs.Table.{table_of};
 ghost use Rattle.list_unchecked.specs.Unchecked.{machine};
 ghost use Rattle.list_form.specs.Form.{
   columns_agree,
@@ -10,9 +10,7 @@ ghost use Rattle.list_form.specs.Form.{
   kind_fits,
   key_fits,
   link_fits,
-  kinds_fit,
-  keys_fit,
-  links_fit,
+  rows_pass,
   good_rows,
   rows_below,
   kept_at,
@@ -32,7 +30,7 @@ ghost use Rattle.list_form.specs.Form.{
 
 use calls::Tallies;
 use list_party::{Party, Place, State};
-use list_rows::{END, ITEM, SPLICE, UNUSED};
+use list_rows::{Columns, END, ITEM, SPLICE, UNUSED};
 
 // Which of its values a party keeps.
 #[derive(Clone, Copy)]
@@ -54,58 +52,37 @@ impl Kept {
         r: false,
     };
 
-    // WALK, SKIP and REREAD
-    const P_N_C: Kept = Kept {
+    // BACK
+    const P: Kept = Kept {
         p: true,
-        n: true,
-        c: true,
-        s: false,
-        r: false,
+        ..Kept::NONE
     };
 
     // ADDSWAP
-    const P_N: Kept = Kept {
-        p: true,
-        n: true,
-        c: false,
-        s: false,
-        r: false,
+    const P_N: Kept = Kept { n: true, ..Kept::P };
+
+    // WALK, SKIP and REREAD
+    const P_N_C: Kept = Kept {
+        c: true,
+        ..Kept::P_N
     };
 
     // MARK
     const P_N_C_S: Kept = Kept {
-        p: true,
-        n: true,
-        c: true,
         s: true,
-        r: false,
+        ..Kept::P_N_C
     };
 
     // CLEAN
     const P_N_R: Kept = Kept {
-        p: true,
-        n: true,
-        c: false,
-        s: false,
         r: true,
-    };
-
-    // BACK
-    const P: Kept = Kept {
-        p: true,
-        n: false,
-        c: false,
-        s: false,
-        r: false,
+        ..Kept::P_N
     };
 
     // LOOK
     const C: Kept = Kept {
-        p: false,
-        n: false,
         c: true,
-        s: false,
-        r: false,
+        ..Kept::NONE
     };
 }
 
@@ -120,7 +97,7 @@ pub fn columns_agree(kind: usize, key: usize, next: usize, back: usize) -> bool
 fn taken_fits(taken: u16, rows: usize) -> bool
     ensures { result ≡ taken_fits taken rows }
 {
-    (4 <= taken) & ((taken as usize) <= rows)
+    (4 <= taken) & (usize::from(taken) <= rows)
 }
 
 // Whether a row may have a kind.
@@ -148,51 +125,37 @@ fn link_fits(taken: usize, row: usize, to: u16) -> bool
     ensures { result ≡ link_fits taken row to }
 {
     if row < taken {
-        return (to as usize) < taken;
+        return usize::from(to) < taken;
     }
     to == 0
 }
 
 // Whether all kinds fit.
 fn kinds_fit(kind: &[u8], taken: u16) -> bool
-    ensures { result ≡ kinds_fit kind.now taken }
+    ensures { result ≡ rows_pass (kind_fits taken) kind.now }
 {
-    let mut row = 0;
-    while row < kind.len() {
-        if !kind_fits(taken as usize, row, kind[row]) {
-            return false;
-        }
-        row += 1;
-    }
-    true
+    kind.iter()
+        .enumerate()
+        .all(|(row, &kind)| kind_fits(usize::from(taken), row, kind))
 }
 
 // Whether all keys fit.
 fn keys_fit(key: &[u32], taken: u16) -> bool
-    ensures { result ≡ keys_fit key.now taken }
+    ensures { result ≡ rows_pass (key_fits taken) key.now }
 {
-    let mut row = 0;
-    while row < key.len() {
-        if !key_fits(taken as usize, row, key[row]) {
-            return false;
-        }
-        row += 1;
-    }
-    true
+    key.iter()
+        .enumerate()
+        .all(|(row, &key)| key_fits(usize::from(taken), row, key))
 }
 
 // Whether all nexts, or all backs, fit.
 fn links_fit(links: &[u16], taken: u16) -> bool
-    ensures { result ≡ links_fit links.now taken }
+    ensures { result ≡ rows_pass (link_fits taken) links.now }
 {
-    let mut row = 0;
-    while row < links.len() {
-        if !link_fits(taken as usize, row, links[row]) {
-            return false;
-        }
-        row += 1;
-    }
-    true
+    links
+        .iter()
+        .enumerate()
+        .all(|(row, &to)| link_fits(usize::from(taken), row, to))
 }
 
 // Whether every row number in a party record is below the number taken.
@@ -213,11 +176,9 @@ fn kept_at(place: Place) -> Kept
 {
     match place {
         Place::Idle => Kept::NONE,
-        Place::Walk(_, _) => Kept::P_N_C,
-        Place::Skip(_, _) => Kept::P_N_C,
+        Place::Walk(_, _) | Place::Skip(_, _) | Place::Reread(_, _) => Kept::P_N_C,
         Place::AddSwap(_, _) => Kept::P_N,
         Place::Mark(_, _) => Kept::P_N_C_S,
-        Place::Reread(_, _) => Kept::P_N_C,
         Place::Clean(_, _) => Kept::P_N_R,
         Place::Back(_, _) => Kept::P,
         Place::Look(_, _) => Kept::C,
@@ -228,17 +189,14 @@ fn kept_at(place: Place) -> Kept
 fn removing(place: Place) -> bool
     ensures { result ≡ removing place }
 {
-    let asked = place.asked();
-    let call = asked.call;
-    call.is_remove()
+    place.asked().call.is_remove()
 }
 
 // Whether values that are not kept are 0; a marked REMOVE keeps r wherever it is.
 fn others_zero(kept: Kept, party: Party) -> bool
     ensures { result ≡ others_zero kept party }
 {
-    let place = party.place;
-    let marked = removing(place) & !party.unpublished;
+    let marked = removing(party.place) & !party.unpublished;
     (kept.p | (party.p == 0))
         & (kept.n | (party.n == 0))
         & (kept.c | (party.c == 0))
@@ -252,13 +210,9 @@ fn can_reach(place: Place) -> bool
 {
     match place {
         Place::Idle => true,
-        Place::Walk(call, _) => call.is_add() | call.is_remove(),
-        Place::Skip(call, _) => call.is_add(),
-        Place::AddSwap(call, _) => call.is_add(),
-        Place::Mark(call, _) => call.is_remove(),
-        Place::Reread(call, _) => call.is_remove(),
-        Place::Clean(call, _) => call.is_remove(),
-        Place::Back(call, _) => call.is_add() | call.is_remove(),
+        Place::Walk(call, _) | Place::Back(call, _) => call.is_add() | call.is_remove(),
+        Place::Skip(call, _) | Place::AddSwap(call, _) => call.is_add(),
+        Place::Mark(call, _) | Place::Reread(call, _) | Place::Clean(call, _) => call.is_remove(),
         Place::Look(call, _) => call.is_contains(),
     }
 }
@@ -275,15 +229,12 @@ fn own_fits(place: Place, own: u16, unpublished: bool) -> bool
     ensures { result ≡ own_fits place own unpublished }
 {
     match place {
-        Place::Idle => none_or_spare(own, unpublished),
+        Place::Idle | Place::Look(_, _) => none_or_spare(own, unpublished),
         Place::Walk(call, _) => (4 <= own) & (unpublished | !call.is_add()),
-        Place::Skip(_, _) => (4 <= own) & unpublished,
-        Place::AddSwap(_, _) => (4 <= own) & unpublished,
-        Place::Mark(_, _) => (4 <= own) & unpublished,
-        Place::Reread(_, _) => (4 <= own) & unpublished,
+        Place::Skip(_, _) | Place::AddSwap(_, _) => (4 <= own) & unpublished,
+        Place::Mark(_, _) | Place::Reread(_, _) => (4 <= own) & unpublished,
         Place::Clean(_, _) => (4 <= own) & !unpublished,
         Place::Back(call, _) => (4 <= own) & (unpublished == call.is_add()),
-        Place::Look(_, _) => none_or_spare(own, unpublished),
     }
 }
 
@@ -300,25 +251,29 @@ fn record_fits(taken: u16, party: Party) -> bool
 }
 
 // Whether the record of party i fits; a place that no party uses is blank.
-fn party_fits(taken: u16, count: u8, i: u32, party: Party) -> bool
+fn party_fits(taken: u16, count: u8, i: usize, party: Party) -> bool
     ensures { result ≡ party_fits taken count i party }
 {
-    let place = party.place;
-    record_fits(taken, party) & ((i < (count as u32)) | place.is_idle() & (party.own == 0))
+    record_fits(taken, party)
+        & ((i < usize::from(count)) | party.place.is_idle() & (party.own == 0))
+}
+
+// Whether each record fits.
+fn records_fit(parties: &[Party], taken: u16, count: u8) -> bool
+    ensures { result ≡ rows_pass (party_fits taken count) parties.now }
+{
+    parties
+        .iter()
+        .enumerate()
+        .all(|(i, &party)| party_fits(taken, count, i, party))
 }
 
 // Whether all sixteen fit.
-fn parties_fit(state: State) -> bool
-    ensures { result ≡ parties_fit state }
+#[tactic(auto, using(crate::proofs::Rows::parties_passed), unfolding(crate::specs::Form::parties_fit))]
+fn parties_fit(state: &State) -> bool
+    ensures { result ≡ parties_fit state.now }
 {
-    let mut i = 0;
-    while i < 16 {
-        if !party_fits(state.taken, state.count, i, state.party_at(i)) {
-            return false;
-        }
-        i += 1;
-    }
-    true
+    records_fit(&state.parties, state.taken, state.count)
 }
 
 // Whether there is a party, and at most sixteen.
@@ -332,36 +287,39 @@ fn count_fits(count: u8) -> bool
 fn tallies_fit(tallies: Tallies) -> bool
     ensures { result ≡ tallies_fit tallies }
 {
-    let swaps = (tallies.won as u64) + (tallies.lost as u64);
-    (swaps <= (tallies.moves as u64)) & (tallies.moves <= 16777216)
+    let swaps = u64::from(tallies.won) + u64::from(tallies.lost);
+    (swaps <= u64::from(tallies.moves)) & (tallies.moves <= 16777216)
 }
 
 // The rows' part of good form, with so many rows taken.
-#[tactic(auto, unfolding(crate::specs::Form::good_rows))]
-fn good_rows(kind: &[u8], key: &[u32], next: &[u16], back: &[u16], taken: u16) -> bool
-    ensures { result ≡ good_rows (before kind key next back) taken }
+#[tactic(auto, using(crate::proofs::Rows::kinds_passed, crate::proofs::Rows::keys_passed, crate::proofs::Rows::links_passed), unfolding(crate::specs::Form::good_rows))]
+fn good_rows(columns: &Columns<'_>, taken: u16) -> bool
+    ensures { result ≡ good_rows (table_of columns.now) taken }
 {
-    columns_agree(kind.len(), key.len(), next.len(), back.len())
-        & taken_fits(taken, kind.len())
-        & kinds_fit(kind, taken)
-        & keys_fit(key, taken)
-        & links_fit(next, taken)
-        & links_fit(back, taken)
+    columns_agree(
+        columns.kind.len(),
+        columns.key.len(),
+        columns.next.len(),
+        columns.back.len(),
+    ) & taken_fits(taken, columns.kind.len())
+        & kinds_fit(columns.kind, taken)
+        & keys_fit(columns.key, taken)
+        & links_fit(columns.next, taken)
+        & links_fit(columns.back, taken)
 }
 
 // The parties' part of good form.
 #[tactic(auto, unfolding(crate::specs::Form::good_parties))]
-fn good_parties(state: State) -> bool
-    ensures { result ≡ good_parties state }
+fn good_parties(state: &State) -> bool
+    ensures { result ≡ good_parties state.now }
 {
-    let tallies = state.tallies;
-    count_fits(state.count) & parties_fit(state) & tallies_fit(tallies)
+    count_fits(state.count) & parties_fit(state) & tallies_fit(state.tallies)
 }
 
 // Whether the columns and the state have good form. Refuses nothing, and does not ask for at most 4,096 rows (1).
 #[tactic(auto, unfolding(crate::specs::Form::good_form))]
-pub fn good_form(kind: &[u8], key: &[u32], next: &[u16], back: &[u16], state: State) -> bool
-    ensures { result ≡ good_form (machine (before kind key next back) state) }
+pub fn good_form(columns: &Columns<'_>, state: &State) -> bool
+    ensures { result ≡ good_form (machine (table_of columns.now) state.now) }
 {
-    good_rows(kind, key, next, back, state.taken) & good_parties(state)
+    good_rows(columns, state.taken) & good_parties(state)
 }
