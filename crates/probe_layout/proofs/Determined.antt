@@ -2,15 +2,14 @@
 -- Assumes nothing.
 use Rattle.logic.specs.Outcome.{OneOutcome}
 use Rattle.logic.proofs.Outcome.{by_equation}
-use Rattle.list_rows.specs.Table.{tab}
-use Rattle.page.specs.Page.{page}
-use Rattle.page.proofs.Laws.{one_page}
+use Rattle.list_rows.specs.Table.{table_in}
+use Rattle.page.proofs.Determined.{held, one_lent}
 use Rattle.probe_layout.proofs.question_in.Reads as question_in
 use Rattle.probe_layout.proofs.read.fits.Reads as fits
 use Rattle.probe_layout.proofs.read.state_in.Reads as state_in
 use Rattle.probe_layout.proofs.read.read_table.Reads as read_table
 use Rattle.probe_layout.proofs.write.put_two.Reads as put_two
-use Rattle.probe_layout.proofs.write.put_u32s.Reads as put_u32s
+use Rattle.probe_layout.proofs.bytes.put_row.Reads as put_row
 use Rattle.probe_layout.proofs.write.put_machine.Reads as put_machine
 
 -- ---- what is read
@@ -25,17 +24,18 @@ pub state_in_fixed : OneOutcome state_in.Post (λ κs answer exit. answer)
 state_in_fixed κs given answer₁ answer₂ exit₁ exit₂ = by_equation
 
 -- the four columns
-pub read_table_fixed : OneOutcome read_table.Post
-    (λ κs answer exit. tab exit.1.0.now exit.1.1.0.now exit.1.1.1.0.now exit.1.1.1.1.0.now)
-read_table_fixed κs given answer₁ answer₂ exit₁ exit₂ = by_equation
+pub read_table_fixed : OneOutcome read_table.Post (λ κs answer exit. table_in exit.1.0.now)
+read_table_fixed κs given answer₁ answer₂ exit₁ exit₂ first second = by_equation first.0 second.0
 
--- ---- what is written: the buffer, and the place behind the bytes
+-- ---- what is put on a page: the page once it is there
 
-pub put_two_fixed : OneOutcome put_two.Post (λ κs answer exit. page exit.0.now answer)
-put_two_fixed κs given answer₁ answer₂ exit₁ exit₂ = one_page
+pub put_two_fixed : OneOutcome put_two.Post (λ κs answer exit. held exit.0.now)
+put_two_fixed κs given answer₁ answer₂ exit₁ exit₂ = one_lent
 
-pub put_u32s_fixed : OneOutcome put_u32s.Post (λ κs answer exit. page exit.0.now answer)
-put_u32s_fixed κs given answer₁ answer₂ exit₁ exit₂ = one_page
+-- of a row of anything that stands in bytes
+pub put_row_fixed : (T : _) (laws : _) (copy : _) (entry : _) (entries : _) (clone : _) (clones : _) →
+    OneOutcome (put_row.Post T laws copy entry entries clone clones) (λ κs answer exit. held exit.0.now)
+put_row_fixed T laws copy entry entries clone clones κs given answer₁ answer₂ exit₁ exit₂ = one_lent
 
-pub put_machine_fixed : OneOutcome put_machine.Post (λ κs answer exit. page exit.0.now answer)
-put_machine_fixed κs given answer₁ answer₂ exit₁ exit₂ = one_page
+pub put_machine_fixed : OneOutcome put_machine.Post (λ κs answer exit. held exit.0.now)
+put_machine_fixed κs given answer₁ answer₂ exit₁ exit₂ = one_lent

@@ -1,19 +1,34 @@
 -- What the tests of the layout tell of bytes that fit, and of columns that have the lengths of the layout.
 -- Assumes nothing.
-use mathlib.Core.Path.{◌≡◌}
-use mathlib.Core.Bool.{Bool, true, false, ◌&&◌}
+use mathlib.Core.Path.{◌≡◌, ap, sym, ◌∙◌}
+use mathlib.Core.Bool.{Bool, true, ◌&&◌}
 use mathlib.Core.List.{List}
 use Prim.Native.Nat.{ℕ, ◌+◌, ◌*◌, ◌<◌, ◌≤◌}
-use lib.ListN.{length}
+use lib.ListN.{length, get_or, take}
+use native.Mathlib.Nat.{zero-add}
+use native.Mathlib.Omega.{arith}
+use Rattle.std.specs.List.{list_all, range_with_len}
+use Rattle.std.proofs.Math.Seq.{take-length}
+use Rattle.std.proofs.lemmas.List.FromFn.{length-range_with_len, get_or-range_with_len}
 use lib.Dec.{eqb, ltb, leb}
 use borrow.Author.Tests.{ltb-true, leb-true, eqb-true, eq-eqb}
 use Rattle.logic.specs.Every.{every}
-use Rattle.logic.proofs.Every.{every_at}
+use Rattle.logic.proofs.Every.{every_at, every_same, every_taken}
 use Rattle.logic.proofs.Tests.{and_left, and_right}
 use Rattle.list_rows.specs.Table.{Table}
 use Rattle.probe_layout.specs.Bytes.{four_at}
 use Rattle.probe_layout.specs.Records.{record_fits}
 use Rattle.probe_layout.specs.Layout.{what_in, places_in, kinds_in, keys_in, nexts_in, backs_in, end_of, table_in, rooms_fit, table_into, few, fits}
+
+-- a test of the numbers from 0 on, one after another
+pub every_counted : (test : ℕ → Bool) (n : ℕ) → list_all test (range_with_len 0 n) ≡ every test n
+every_counted test n =
+    let numbers = range_with_len 0 n in
+    let long : length numbers ≡ n = length-range_with_len 0 n in
+    let whole : take n numbers ≡ numbers = rw (ap (λ (m : ℕ). take m numbers) (sym long)) (take-length numbers) in
+    ap (list_all test) (sym whole)
+    ∙ every_taken test numbers 0 n (omega (arith, long))
+    ∙ every_same (λ i. test (get_or numbers i 0)) test n (λ k inside. ap test (get_or-range_with_len 0 n k 0 inside ∙ zero-add k))
 
 -- each test as a fact
 pub record Fit (bytes : List ℕ) : Type 0 where
@@ -93,18 +108,7 @@ rooms_fit_lem bytes t rooms =
       eq-eqb (length t.back) (backs_in bytes) rooms.backs,
     )
 
--- the tests as the code makes them
-pub rooms_told : (bytes : List ℕ) (t : Table) {kinds keys nexts backs : ℕ} → kinds ≡ kinds_in bytes → keys ≡ keys_in bytes → nexts ≡ nexts_in bytes → backs
-    ≡ backs_in bytes →
-    eqb (length t.kind) kinds && eqb (length t.key) keys && eqb (length t.next) nexts && eqb (length t.back) backs ≡ rooms_fit bytes t
-unfolding rooms_fit
-rooms_told bytes t kinds keys nexts backs = rw (kinds, keys, nexts, backs)
-
--- a table is read, or its columns stay
+-- a table is read
 pub table_read : (bytes : List ℕ) (t : Table) → rooms_fit bytes t ≡ true → table_in bytes ≡ table_into bytes t
 unfolding table_into
 table_read bytes t fit = rw fit
-
-pub table_stays : (bytes : List ℕ) (t : Table) → rooms_fit bytes t ≡ false → t ≡ table_into bytes t
-unfolding table_into
-table_stays bytes t none = rw none

@@ -1,26 +1,20 @@
 -- Numbers read and written byte by byte, columns and party records read and written one by one.
 -- Assumes nothing.
 use mathlib.Core.Path.{◌≡◌, refl, ap, sym, ◌∙◌}
-use mathlib.Core.Bool.{Bool, true, false, cond}
 use mathlib.Core.List.{List, [], ◌∷◌, ◌++◌, append-nil}
-use Prim.Native.Nat.{ℕ, zero, suc, ◌+◌, ◌*◌, ◌/◌, ◌%◌, ◌<◌, ◌≤◌}
+use Prim.Native.Nat.{ℕ, zero, suc, ◌+◌, ◌*◌, ◌/◌, ◌%◌, ◌<◌}
 use native.Mathlib.Nat.{mul-zero, mul-suc, not-suc-le-zero, le_of_suc-le-suc, div-one}
 use native.Mathlib.Numerals.{add-one}
 use native.Mathlib.Omega.{arith}
-use lib.Dec.{eqb}
-use mir.Val.{bool_byte}
-use lib.ListN.{length, get_or, set, drop, get_or-eq_default}
-use lib.Seq.{drop-cons, drop-length}
-use Rattle.field.specs.Layout.{bytes_in, Bytes}
+use lib.ListN.{length, take, get_or, set, drop}
+use lib.Seq.{drop-length}
+use Rattle.page.specs.Page.{Page, put}
+use Rattle.page.proofs.Laws.{put_nothing, each_more}
+use Rattle.field.specs.Layout.{bytes_in}
 use Rattle.list_rows.specs.Table.{Table, tab}
-use Rattle.calls.specs.declared.Call.{Call}
-use Rattle.list_party.specs.declared.Place.{Place}
-use Rattle.list_party.specs.declared.Place.TheVariants.{Look}
-use Rattle.calls.specs.Calls.{call_named}
-use Rattle.probe_layout.specs.Bytes.{byte_at, two_at, four_at, each, low, one_by_one, lows}
-use Rattle.probe_layout.specs.Records.{numbered, place_numbered, record_at}
-use Rattle.probe_layout.specs.Layout.{kinds_in, keys_in, nexts_in, table_in}
 use Rattle.probe_layout.proofs.Fitting.{Rooms}
+use Rattle.probe_layout.specs.Layout.{kinds_in, keys_in, nexts_in, table_in}
+use Rattle.probe_layout.specs.Bytes.{byte_at, two_at, four_at, each, low, one_by_one}
 
 -- ---- a column that a loop reads, entry by entry
 
@@ -66,16 +60,19 @@ unfolding table_in
 table_told bytes rooms kinds keys nexts a b c d =
     rw (a, b, c, d, kinds, keys, nexts, rooms.kinds, rooms.keys, rooms.nexts, rooms.backs)
 
--- ---- what a loop writes, one by one
+-- ---- what a loop puts on a page, one by one
 
-module _ {A : Type 0} (bytes_of : A → List ℕ) (l : List A) (i : ℕ) where
-  pub row_on : (d : A) → i < length l → bytes_of (get_or l i d) ++ one_by_one bytes_of (drop (i + 1) l) ≡ one_by_one bytes_of (drop i l)
+module _ {A : Type 0} (bytes_of : A → List ℕ) (p : Page) where
+  pub row_nothing : put p (one_by_one bytes_of []) ≡ p
   unfolding one_by_one
-  row_on d inside = rw (add-one i, drop-cons l i d)
+  row_nothing = put_nothing p
 
-  pub row_end : length l ≤ i → i ≤ length l → [] ≡ one_by_one bytes_of (drop i l)
+  pub row_more : (l : List A) (i : ℕ) (entry : A) → entry ≡ get_or l i entry → i < length l →
+      put p (one_by_one bytes_of (take (i + 1) l)) ≡ put (put p (one_by_one bytes_of (take i l))) (bytes_of entry)
   unfolding one_by_one
-  row_end past inside = let whole : i ≡ length l = omega arith in rw (whole, drop-length)
+  row_more l i entry is inside =
+      each_more (one_by_one bytes_of) bytes_of refl (λ first rest. refl) p l i entry inside
+      ∙ ap (λ (e : A). put (put p (one_by_one bytes_of (take i l))) (bytes_of e)) (sym is)
 
 -- ---- numbers
 
@@ -83,48 +80,19 @@ pub two_bytes : (number : ℕ) → number % 256 ∷ number / 256 % 256 ∷ [] �
 unfolding bytes_in
 two_bytes number = ap (λ (n : ℕ). n % 256 ∷ number / 256 % 256 ∷ []) (sym (div-one number))
 
-pub four_bytes_lem : (number : ℕ) → low 2 number ++ low 2 (number / 65536) ≡ low 4 number
+-- the low two bytes of a number are those of its rest
+pub low_two_alone : (number : ℕ) → low 2 (number % 65536) ≡ low 2 number
 unfolding bytes_in
-four_bytes_lem number =
-    let third : number / 65536 / 1 % 256 ≡ number / 65536 % 256 = omega arith in
-    let fourth : number / 65536 / 256 % 256 ≡ number / 16777216 % 256 = omega arith in
-    rw (third, fourth)
+low_two_alone number =
+    let first : number % 65536 / 1 % 256 ≡ number / 1 % 256 = omega arith in
+    let second : number % 65536 / 256 % 256 ≡ number / 256 % 256 = omega arith in
+    rw (first, second)
+
+pub four_bytes : (number : ℕ) → number % 256 ∷ number / 256 % 256 ∷ number / 65536 % 256 ∷ number / 16777216 % 256 ∷ [] ≡ low 4 number
+unfolding bytes_in
+four_bytes number = ap (λ (n : ℕ). n % 256 ∷ number / 256 % 256 ∷ number / 65536 % 256 ∷ number / 16777216 % 256 ∷ []) (sym (div-one number))
 
 -- a byte is its own low byte
 pub one_byte : (byte : ℕ) → byte < 256 → low 1 byte ≡ byte ∷ []
 unfolding bytes_in
 one_byte byte small = let same : byte / 1 % 256 ≡ byte = omega arith in rw same
-
-pub bytes_as_are : (l : List ℕ) → Bytes l → l ≡ lows 1 l
-unfolding one_by_one
-bytes_as_are [] all = refl
-bytes_as_are (byte ∷ rest) all =
-    rw (one_byte byte (all zero)) (ap {B = List ℕ} (λ (later : List ℕ). byte ∷ later) (bytes_as_are rest (λ place. all (suc place))))
-
--- ---- places
-
--- a number that is past one and is not the next
-pub passed : (k number : ℕ) → k ≤ number → (number ≡ k → ⊥) → k + 1 ≤ number
-passed k number past differs = omega arith
-
-pub past_back : (number : ℕ) (call : Call) (key : ℕ) → 8 ≤ number → Look call key ≡ place_numbered number call key
-past_back number call key past = sym (get_or-eq_default (numbered call key) (Look call key) past)
-
-pub record_told : (bytes : List ℕ) (at : ℕ) {code number key p n c s r own flag : ℕ} {call : Call} {place : Place} →
-    code ≡ byte_at bytes (at + 1) → call ≡ call_named code → number ≡ byte_at bytes at → key ≡ four_at bytes (at + 2) → place ≡ place_numbered number call key →
-    p ≡ two_at bytes (at + 6) → n ≡ two_at bytes (at + 8) → c ≡ two_at bytes (at + 10) → s ≡ two_at bytes (at + 12) → r ≡ two_at bytes (at + 14) →
-    own ≡ two_at bytes (at + 16) → flag ≡ byte_at bytes (at + 18) →
-    record { place = place; p = p; n = n; c = c; s = s; r = r; own = own; unpublished = eqb flag 1 } ≡ record_at bytes at
-unfolding record_at
-record_told bytes at {code} {number} {key} codes calls numbers keys places ps ns cs ss rs owns flags =
-    let call_so = calls ∙ ap call_named codes in
-    let place_so =
-    places
-    ∙ ap (λ (x : Call). place_numbered number x key) call_so
-    ∙ ap (λ (x : ℕ). place_numbered x (call_named (byte_at bytes (at + 1))) key) numbers
-    ∙ ap (place_numbered (byte_at bytes at) (call_named (byte_at bytes (at + 1)))) keys in
-    rw (place_so, ps, ns, cs, ss, rs, owns, flags)
-
-pub flag_byte : (flag : Bool) → bool_byte flag ≡ cond flag 1 0
-flag_byte true = refl
-flag_byte false = refl

@@ -5,7 +5,6 @@ use Rattle.list_party.specs.declared.Place.{Place}
 use Rattle.list_party.specs.declared.Place.TheVariants.{Idle, Walk, Skip, AddSwap, Mark, Reread, Clean, Back, Look}
 use Rattle.list_party.specs.declared.Party.{Party}
 use Rattle.calls.specs.Calls.{call_named, code_of}
-use Rattle.probe_layout.specs.declared.write.Spelled.{Spelled}
 use Rattle.probe_layout.specs.Bytes.{byte_at, two_at, four_at, low, one_by_one}
 
 -- ---- numbers of places
@@ -31,10 +30,6 @@ place_bytes (Reread call key) = 5 ∷ code_of call ∷ low 4 key
 place_bytes (Clean call key) = 6 ∷ code_of call ∷ low 4 key
 place_bytes (Back call key) = 7 ∷ code_of call ∷ low 4 key
 place_bytes (Look call key) = 8 ∷ code_of call ∷ low 4 key
-
--- the same bytes, as the code spells a place
-abbrev pub spelled_bytes : Spelled → List ℕ
-spelled_bytes spelled = spelled.number ∷ spelled.call ∷ low 4 spelled.key
 
 -- ---- a record: place, call, key, then p, n, c, s, r, own, then 1 for an unpublished own, then a zero
 

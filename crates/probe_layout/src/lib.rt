@@ -1,18 +1,21 @@
 // A question in bytes: what is asked, a table and a state, read and written back; and which bytes fit the layout.
 #![tactic(auto)]
 
+mod bytes;
 mod read;
+mod records;
 mod write;
 
 ghost use Rattle.std.specs.Prelude.{◌≡◌};
 ghost use Rattle.probe_layout.specs.Layout.{question_in};
 
-use read::{byte_at, four_at, two_at};
+use bytes::InBytes;
+pub use bytes::put_row;
 pub use read::{fits, read_table, state_in};
-pub use write::{put_machine, put_two, put_u32s};
+pub use write::{put_machine, put_two};
 
 // The numbers before the state: which question, of which party, with which code and key, how many places, and the
-// lengths of the columns.
+// lengths of the columns. What is asked stays a number: any byte makes a question, and one over 3 does not fit.
 #[derive(Clone, Copy)]
 pub struct Question {
     pub what: u8,
@@ -31,14 +34,14 @@ pub fn question_in(bytes: &[u8]) -> Question
     ensures { result ≡ question_in bytes.now }
 {
     Question {
-        what: byte_at(bytes, 0),
-        party: four_at(bytes, 1),
-        code: four_at(bytes, 5),
-        key: four_at(bytes, 9),
-        places: two_at(bytes, 13),
-        kinds: two_at(bytes, 15),
-        keys: two_at(bytes, 17),
-        nexts: two_at(bytes, 19),
-        backs: two_at(bytes, 21),
+        what: u8::read(bytes, 0),
+        party: u32::read(bytes, 1),
+        code: u32::read(bytes, 5),
+        key: u32::read(bytes, 9),
+        places: u16::read(bytes, 13),
+        kinds: u16::read(bytes, 15),
+        keys: u16::read(bytes, 17),
+        nexts: u16::read(bytes, 19),
+        backs: u16::read(bytes, 21),
     }
 }

@@ -1,19 +1,15 @@
--- The loop over the party records.
-use mathlib.Core.Path.{◌≡◌, ap, ◌∙◌}
+-- The records are tested one after another, by their numbers.
+use mathlib.Core.Path.{refl, ◌∙◌}
 use Prim.Native.Nat.{ℕ, ◌+◌, ◌*◌}
-use native.Mathlib.Numerals.{add-one}
-use Rattle.logic.specs.Every.{every}
+use Rattle.std.proofs.Common.{rules, tests}
+use Rattle.std.proofs.lemmas.Iterator.{YieldsList-from_range}
+use Rattle.std.proofs.lemmas.Iterator.Search.{all_from_yields_List}
 use Rattle.probe_layout.specs.Records.{record_fits}
-use native.Mathlib.Omega.{arith}
+use Rattle.probe_layout.proofs.Fitting.{every_counted}
 use Rattle.probe_layout.proofs.read.records_fit.Goals as goal
-
-pub loop-i-preserved : goal.loop-i-preserved
-loop-i-preserved c = record {
-  within = omega arith;
-  so_far = rw (c.loop-i.invariant.so_far, c.record_fits-all.ensures, add-one c.loop-i.i);
-}
 
 pub returns : goal.returns
 returns c =
-    let done : c.loop-i.i ≡ 16 = omega arith in
-    c.loop-i.invariant.so_far ∙ ap (every (λ (k : ℕ). record_fits c.args.bytes.now (43 + 20 * k))) done
+    all_from_yields_List (λ (i : ℕ). record_fits c.args.bytes.now (43 + 20 * i)) _ _ c.all.result c.all.ensures.ran
+    (YieldsList-from_range 0 16 16 refl refl) (λ x b q k. search (rules, tests))
+    ∙ every_counted (λ (i : ℕ). record_fits c.args.bytes.now (43 + 20 * i)) 16
