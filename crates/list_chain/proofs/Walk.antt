@@ -1,10 +1,10 @@
 -- One step of each walk along the chain: whether it rises, how many keys it has, the keys themselves.
 -- Assumes nothing.
-use mathlib.Core.Path.{◌≡◌, refl, ap, ◌∙◌}
+use mathlib.Core.Path.{◌≡◌, refl}
 use mathlib.Core.Logic.{◌≢◌}
-use mathlib.Core.Bool.{Bool, true, false, cond}
+use mathlib.Core.Bool.{true, false}
 use mathlib.Core.List.{List, []}
-use Prim.Native.Nat.{ℕ, zero, suc, ◌+◌, ◌-◌, ◌<◌, ◌≤◌}
+use Prim.Native.Nat.{ℕ, zero, suc, ◌+◌, ◌-◌, ◌<◌}
 use native.Mathlib.Nat.{not-suc-le-zero, add-zero}
 use native.Mathlib.Numerals.{add-one, sub-one}
 use native.Mathlib.Omega.{arith}
@@ -15,7 +15,6 @@ use borrow.Author.Tests.{eq-eqb, ne_eqb}
 use Rattle.list_rows.specs.Table.{Table, key_at}
 use Rattle.list_rows.specs.Order.{below}
 use Rattle.list_chain.specs.Chain.{behind, is_live, rises, with_key, live_from}
-use Rattle.logic.specs.Sum.{one_if}
 
 -- one turn of a loop more is one row less that is left
 one_turn : (taken turns : ℕ) → taken - (turns + 1) ≡ taken - turns - 1
@@ -64,38 +63,34 @@ module _ (t : Table) (row : ℕ) where
   live_on zero some goes = absurd (not-suc-le-zero some)
   live_on (suc left) some goes = rw (ne_eqb row 2 goes, sub-one)
 
--- ---- a key that counts, in a count and in the places
+-- ---- one row more: its key counts, or the row is no live one
 
 pub none_left : (count : ℕ) {keys : List ℕ} → keys ≡ [] → count + length keys ≡ count
 none_left count none = rw none (add-zero count)
 
-at_most_one : (counts : Bool) → one_if counts ≤ 1
-at_most_one true = omega arith
-at_most_one false = omega arith
+module _ (t : Table) (row taken turns : ℕ) (some : turns < taken) (goes : row ≢ 2) {later : ℕ} (is_behind : later ≡ behind t row) where
+  -- the keys from this row on, by those from the row behind it on
+  rest : List ℕ
+  rest = live_from t (taken - (turns + 1)) later
 
-pub one_at_most : {one : ℕ} (counts : Bool) → one ≡ one_if counts → one ≤ 1
-one_at_most counts is = rw is (at_most_one counts)
+  keys_on : live_from t (taken - turns) row ≡ with_key (is_live t row) (key_at t row) rest
+  unfolding rest
+  keys_on = rw (is_behind, one_turn taken turns) (live_on t row (taken - turns) (omega (arith, some)) goes)
 
-counts_key : (counts : Bool) (key : ℕ) (later : List ℕ) (count : ℕ) → count + length (with_key counts key later) ≡ count + one_if counts + length later
-counts_key true key later count = omega arith
-counts_key false key later count = omega arith
+  pub count_live : (count : ℕ) → is_live t row ≡ true → count + length (live_from t (taken - turns) row) ≡ count + 1 + length (live_from t (taken - (turns + 1)) later)
+  unfolding rest
+  count_live count live = let keys = rw live at keys_on in rw keys (omega arith)
 
-puts_key : (counts : Bool) (key : ℕ) (later places : List ℕ) (place : ℕ) →
-    sets places place (with_key counts key later) ≡ sets (cond counts (set places place key) places) (place + one_if counts) later
-puts_key true key later places place = rw add-one
-puts_key false key later places place = rw add-zero
+  pub count_dead : (count : ℕ) → is_live t row ≡ false → count + length (live_from t (taken - turns) row) ≡ count + length (live_from t (taken - (turns + 1)) later)
+  unfolding rest
+  count_dead count dead = let keys = rw dead at keys_on in rw keys
 
-module _ (t : Table) (row taken turns : ℕ) (some : turns < taken) (goes : row ≢ 2) {live : Bool} {one later : ℕ}
-    (lives : live ≡ is_live t row) (counts : one ≡ one_if live) (is_behind : later ≡ behind t row) where
-  pub count_on : (count : ℕ) → count + length (live_from t (taken - turns) row) ≡ count + one + length (live_from t (taken - (turns + 1)) later)
-  count_on count =
-      rw (counts, lives, is_behind, one_turn taken turns)
-      (ap (λ (keys : List ℕ). count + length keys) (live_on t row (taken - turns) (omega (arith, some)) goes)
-      ∙ counts_key (is_live t row) (key_at t row) (live_from t (taken - turns - 1) (behind t row)) count)
+  pub put_live : (places : List ℕ) (place : ℕ) → is_live t row ≡ true →
+      sets places place (live_from t (taken - turns) row) ≡ sets (set places place (key_at t row)) (place + 1) (live_from t (taken - (turns + 1)) later)
+  unfolding rest
+  put_live places place live = let keys = rw live at keys_on in rw (keys, add-one place)
 
-  pub put_on : (places : List ℕ) (place : ℕ) {key : ℕ} {after : List ℕ} → key ≡ key_at t row → after ≡ cond live (set places place key) places →
-      sets places place (live_from t (taken - turns) row) ≡ sets after (place + one) (live_from t (taken - (turns + 1)) later)
-  put_on places place is_key puts =
-      rw (puts, counts, lives, is_key, is_behind, one_turn taken turns)
-      (ap (λ (keys : List ℕ). sets places place keys) (live_on t row (taken - turns) (omega (arith, some)) goes)
-      ∙ puts_key (is_live t row) (key_at t row) (live_from t (taken - turns - 1) (behind t row)) places place)
+  pub put_dead : (places : List ℕ) (place : ℕ) → is_live t row ≡ false →
+      sets places place (live_from t (taken - turns) row) ≡ sets places place (live_from t (taken - (turns + 1)) later)
+  unfolding rest
+  put_dead places place dead = let keys = rw dead at keys_on in rw keys

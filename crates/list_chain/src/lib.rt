@@ -1,11 +1,10 @@
 // The chain that a listing follows: whether it rises, how many live keys are on it, and the keys themselves.
 #![tactic(auto)]
 
-ghost use Rattle.std.specs.Prelude.{◌≡◌, cond, length, set};
+ghost use Rattle.std.specs.Prelude.{◌≡◌, length, set};
 ghost use Rattle.std.proofs.lemmas.List.Edits.{sets};
 ghost use Rattle.list_rows.specs.Table.{table_of, head_nxt};
 ghost use Rattle.list_chain.specs.Chain.{behind, is_live, rises, live_from};
-ghost use Rattle.logic.specs.Sum.{one_if};
 
 use list_rows::{Columns, Row};
 
@@ -46,13 +45,6 @@ pub fn chain_rises(columns: &Columns<'_>, taken: u16) -> bool
     row == Row::TAIL.0
 }
 
-// One for a key that counts.
-fn one_if(live: bool) -> usize
-    ensures { result ≡ one_if live }
-{
-    usize::from(live)
-}
-
 // How many live keys are on the chain from row 1 to row 2, in at most so many rows.
 // Tests nothing: neither good form nor that the chain rises.
 pub fn live_count(columns: &Columns<'_>, taken: u16) -> usize
@@ -64,17 +56,19 @@ pub fn live_count(columns: &Columns<'_>, taken: u16) -> usize
         if row == Row::TAIL.0 {
             return count;
         }
-        count += one_if(is_live(columns, row));
+        if is_live(columns, row) {
+            count += 1;
+        }
         row = row_behind(columns, row);
     }
     count
 }
 
-// Writes a key that counts at a place; past the last place nothing is written.
-fn put_if(live: bool, places: &mut [u32], place: usize, wanted: u32)
-    ensures { places.new ≡ cond live (set places.old place wanted) places.old }
+// Writes a key at a place; past the last place nothing is written.
+fn put(places: &mut [u32], place: usize, wanted: u32)
+    ensures { places.new ≡ set places.old place wanted }
 {
-    if live && place < places.len() {
+    if place < places.len() {
         places[place] = wanted;
     }
 }
@@ -91,9 +85,10 @@ pub fn write_live(columns: &Columns<'_>, taken: u16, places: &mut [u32])
         if row == Row::TAIL.0 {
             return;
         }
-        let live = is_live(columns, row);
-        put_if(live, places, place, columns.key_at(row));
-        place += one_if(live);
+        if is_live(columns, row) {
+            put(places, place, columns.key_at(row));
+            place += 1;
+        }
         row = row_behind(columns, row);
     }
 }

@@ -1,9 +1,10 @@
 -- `live_count` counts the live keys on the chain.
-use Rattle.std.proofs.Common.{◌≡◌, ◌≤◌, ◌-◌, ℕ, sym, ap, ◌∙◌, arith}
+use Rattle.std.proofs.Common.{◌≡◌, ◌-◌, ℕ, sym, ap, ◌∙◌, arith}
 use Rattle.list_rows.specs.Table.{table_of}
 use Rattle.list_chain.specs.Chain.{live_from}
-use Rattle.list_chain.proofs.Walk.{live_none, live_end, none_left, count_on, one_at_most}
+use Rattle.list_chain.proofs.Walk.{live_none, live_end, none_left, count_live, count_dead}
 use Rattle.list_chain.proofs.live_count.Goals as goal
+use Rattle.list_chain.proofs.live_count.Goals.{then-is_live, else-is_live}
 
 pub returns-then-row : goal.returns-then-row
 returns-then-row c =
@@ -13,12 +14,24 @@ returns-then-row c =
 pub loop-preserved : goal.loop-preserved
 loop-preserved c =
     let t = table_of c.args.columns.now in
-    let one : c.one_if-count.result ≤ 1 = one_at_most c.is_live.result c.one_if-count.ensures in record {
-      within = omega arith;
-      so_far = c.loop.invariant.so_far
-          ∙ count_on t c.loop.row c.args.taken c.loop.counter (omega arith) c.if-row.false
-          c.is_live.ensures c.one_if-count.ensures c.row_behind-row.ensures c.loop.count;
-    }
+    elim c.if-is_live.branch [
+      | then-is_live w ↦
+          record {
+            within = omega (arith, w.count-is);
+            so_far = c.loop.invariant.so_far
+                ∙ count_live t c.loop.row c.args.taken c.loop.counter (omega arith) c.if-row.false c.row_behind-row.ensures c.loop.count
+                (sym c.is_live.ensures ∙ w.if-is_live.true)
+                ∙ rw w.count-is;
+          }
+      | else-is_live w ↦
+          record {
+            within = omega (arith, w.count-is);
+            so_far = c.loop.invariant.so_far
+                ∙ count_dead t c.loop.row c.args.taken c.loop.counter (omega arith) c.if-row.false c.row_behind-row.ensures c.loop.count
+                (sym c.is_live.ensures ∙ w.if-is_live.false)
+                ∙ rw w.count-is;
+          }
+    ]
 
 pub returns : goal.returns
 returns c =
