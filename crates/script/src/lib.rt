@@ -256,13 +256,13 @@ pub fn most_lines(text: &[u8]) -> usize
     text.len() / 6
 }
 
-// The number of the first bad line of a body that starts at a place and has at most so many lines.
-#[tactic(auto, unfolding(crate::specs::Body::bad_from), using(text::proofs::Laws::one_left))]
-fn body_bad(text: &[u8], from: usize, most: usize) -> Option<usize>
-    requires { most < 9223372036854775808 }
-    ensures { result ≡ bad_from text.now 0 from most }
+// The number of the first bad line of a body that starts at a place.
+#[tactic(auto, unfolding(crate::specs::Body::bad_from, crate::specs::Body::most_lines), using(text::proofs::Laws::one_left))]
+fn body_bad(text: &[u8], from: usize) -> Option<usize>
+    ensures { result ≡ bad_from text.now 0 from (most_lines text.now) }
 {
     let mut at = from;
+    let most = most_lines(text);
     for seen in 0..most {
         let line = line_at(text, at);
         if ends_body(line) {
@@ -274,10 +274,9 @@ fn body_bad(text: &[u8], from: usize, most: usize) -> Option<usize>
 }
 
 // The number of the first bad line of a text with this head.
-#[tactic(auto, unfolding(crate::specs::Body::first_bad, crate::specs::Body::most_lines))]
+#[tactic(auto, unfolding(crate::specs::Body::first_bad))]
 pub fn first_bad(text: &[u8], head: Head) -> Option<usize>
     ensures { result ≡ first_bad text.now head }
 {
-    head.bad
-        .or_else(|| body_bad(text, head.next, most_lines(text)))
+    head.bad.or_else(|| body_bad(text, head.next))
 }
