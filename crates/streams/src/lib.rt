@@ -1,4 +1,4 @@
-// What the programs read into and print from: rooms of zeros, a stream read until its room is full, the front of a room.
+// What the programs read into: rooms of zeros, a stream read until its room is full, the front of a room.
 #![tactic(auto)]
 
 ghost use Rattle.std.specs.Prelude.{◌≡◌, ◌<◌, length, take, IfOk};
