@@ -1,20 +1,14 @@
--- What the code's shifts, masks and tests are: shifts and masks as products and remainders, the two tests of a field, four bytes as a list.
+-- What the code's shifts and writes are: shifts and ors as sums of products, four bytes written as a list.
 -- Assumes nothing.
-use mathlib.Core.Path.{◌≡◌, refl, ap, sym, ◌∙◌}
-use mathlib.Core.Bool.{true, false}
+use mathlib.Core.Path.{◌≡◌, refl}
 use mathlib.Core.List.{List, [], ◌∷◌}
-use Prim.Native.Nat.{ℕ, zero, suc, ◌+◌, ◌*◌, ◌%◌, ◌^◌, ◌<◌, ◌≤◌}
-use native.Mathlib.Nat.{add-zero}
+use Prim.Native.Nat.{ℕ, ◌+◌, ◌*◌, ◌%◌, ◌^◌, ◌<◌, ◌≤◌}
 use native.Mathlib.Omega.{arith}
 use native.Mathlib.Numerals.{add-one, add-two, add-three}
-use lib.Bits.{bit_and, bit_or, or_shifted, and_mask}
-use lib.ListN.{length, get_or, set, take, drop, length-drop}
-use lib.Seq.{get_or-drop, sets-eq}
-use borrow.Author.Tests.{lt-ltb, le-ltb}
-use mir.Syntax.{w8}
-use mir.Val.{Fits}
-use Rattle.field.specs.Field.{bytes_at, put_bytes, order_of, runs_past}
-use Rattle.field.specs.declared.ByteOrder.TheVariants.{LowFirst}
+use lib.Bits.{bit_or, or_shifted}
+use lib.ListN.{length, set}
+use lib.Seq.{sets-eq}
+use Rattle.field.specs.Field.{put_bytes}
 
 -- ---- shifts and masks
 
@@ -38,40 +32,7 @@ joined a b c d a_byte b_byte c_byte d_byte =
       or_sum 8 (a * 16777216 + b * 65536 + c * 256) (a * 65536 + b * 256 + c) d (omega arith) (omega arith),
     )
 
--- the low byte, by the mask 255
-pub low_byte : (number : ℕ) → bit_and number 255 ≡ number % 256
-low_byte number = and_mask number 8
-
-pub low_byte_fits : (number : ℕ) → Fits w8 (bit_and number 255)
-low_byte_fits number = record { fits = omega (arith, low_byte number) }
-
--- ---- the tests
-
-pub runs_past_lem : (len place : ℕ) → len < place + 4 → true ≡ runs_past len place
-runs_past_lem len place past = sym (lt-ltb len (place + 4) past)
-
-pub inside : (len place : ℕ) → place + 4 ≤ len → false ≡ runs_past len place
-inside len place within = sym (le-ltb len (place + 4) within)
-
-pub low_first : (code : ℕ) → (code ≡ 0 → ⊥) → LowFirst ≡ order_of code
-low_first zero differs = absurd (differs refl)
-low_first (suc code) differs = refl
-
 -- ---- four bytes
-
-four_taken : (bytes : List ℕ) → 4 ≤ length bytes → get_or bytes 0 0 ∷ get_or bytes 1 0 ∷ get_or bytes 2 0 ∷ get_or bytes 3 0 ∷ [] ≡ take 4 bytes
-four_taken [] long = absurd (omega arith)
-four_taken (a ∷ []) long = absurd (omega arith)
-four_taken (a ∷ b ∷ []) long = absurd (omega arith)
-four_taken (a ∷ b ∷ c ∷ []) long = absurd (omega arith)
-four_taken (a ∷ b ∷ c ∷ d ∷ rest) long = refl
-
-pub four_read : (bytes : List ℕ) (place : ℕ) → place + 4 ≤ length bytes →
-    get_or bytes place 0 ∷ get_or bytes (place + 1) 0 ∷ get_or bytes (place + 2) 0 ∷ get_or bytes (place + 3) 0 ∷ [] ≡ bytes_at 4 bytes place
-four_read bytes place within =
-    let long : 4 ≤ length (drop place bytes) = rw length-drop (omega arith) in
-    let first : get_or (drop place bytes) 0 0 ≡ get_or bytes place 0 = get_or-drop place bytes 0 0 ∙ ap (λ (n : ℕ). get_or bytes n 0) (add-zero place) in
-    rw (← first, ← get_or-drop place bytes 1 0, ← get_or-drop place bytes 2 0, ← get_or-drop place bytes 3 0) (four_taken (drop place bytes) long)
 
 pub four_written : (bytes : List ℕ) (place a b c d : ℕ) → place + 4 ≤ length bytes →
     set (set (set (set bytes place a) (place + 1) b) (place + 2) c) (place + 3) d ≡ put_bytes bytes place (a ∷ b ∷ c ∷ d ∷ [])

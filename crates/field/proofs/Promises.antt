@@ -6,11 +6,9 @@ use mathlib.Core.List.{List}
 use Prim.Native.Nat.{ℕ, ◌+◌, ◌<◌, ◌≤◌}
 use lib.ListN.{length}
 use borrow.Author.Tests.{lt-ltb, le-ltb}
-use Rattle.refusal.specs.Number.{number_of}
 use Rattle.refusal.specs.Answer.{accepted, refused, left, passed}
-use Rattle.refusal.proofs.Laws.{not_both, answer_past, change_past}
-use Rattle.refusal.proofs.Told.{numbers_differ}
-use Rattle.field.specs.declared.Loaded.TheVariants.{Key, Refused}
+use Rattle.refusal.proofs.Laws.{answer_past, change_past}
+use Rattle.refusal.proofs.Told.{answers_differ}
 use Rattle.field.specs.Field.{field_at, stored, order_of, field_tests, load_of, store_of}
 use Rattle.field.specs.Claims.{StoreThenLoad, LoadThenStore, LoadsExactly, StoresExactly, LoadedDiffer}
 use Rattle.field.proofs.Fields.{store_touches_no_other, stored_is_held, held_is_stored}
@@ -75,7 +73,4 @@ load_then_store bytes place code key all accepts =
     sym (store_accepts bytes place code key told.0 refl same)
 
 pub loaded_differ : LoadedDiffer
-loaded_differ (Key a) (Key b) e = let same : a ≡ b = cc in ap Key same
-loaded_differ (Key a) (Refused b) e = absurd (not_both e)
-loaded_differ (Refused a) (Key b) e = absurd (not_both (sym e))
-loaded_differ (Refused a) (Refused b) e = let same : number_of a ≡ number_of b = cc in ap Refused (numbers_differ a b same)
+loaded_differ = answers_differ _ _ (λ key. key) (λ x y same. same)

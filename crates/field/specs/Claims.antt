@@ -1,8 +1,8 @@
 -- What is proved of the number layout and of fields: for every width and both orders, and of the two entry points.
-use Rattle.std.specs.Prelude.{◌≡◌, List, ◌⊎◌, ℕ, ◌+◌, ◌^◌, ◌<◌, ◌≤◌, length, get_or}
+use Rattle.std.specs.Prelude.{◌≡◌, List, ◌⊎◌, ℕ, ◌+◌, ◌^◌, ◌<◌, ◌≤◌, length, get_or, Result}
 use Rattle.refusal.specs.Answer.{accepted, refused, left, passed}
 use Rattle.field.specs.declared.ByteOrder.{ByteOrder}
-use Rattle.field.specs.declared.Loaded.{Loaded}
+use Rattle.refusal.specs.declared.Refusal.{Refusal}
 use Rattle.field.specs.Layout.{number_in, bytes_in, Bytes}
 use Rattle.field.specs.Field.{field_at, stored, order_of, load_of, store_of}
 use Rattle.field.specs.Readings.{loaded_is}
@@ -76,4 +76,4 @@ LoadThenStore =
 
 -- two answers to a load that read the same in the document's terms are the same
 abbrev pub LoadedDiffer : Type 0
-LoadedDiffer = (a b : Loaded) → loaded_is a ≡ loaded_is b → a ≡ b
+LoadedDiffer = (a b : Result ℕ Refusal) → loaded_is a ≡ loaded_is b → a ≡ b

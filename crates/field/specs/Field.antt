@@ -1,8 +1,9 @@
 -- Fields of a lent record: where they stand, what is refused, what a load answers and a store leaves
 -- (document 01, "Key fields" and "Refusal numbers").
 use Prim.{Unit}
-use Rattle.std.specs.Prelude.{Bool, List, ◌++◌, ℕ, zero, suc, ◌+◌, ltb, length, take, drop}
-use Rattle.refusal.specs.Answer.{Answer, accepted, Left, left, Tests, passed, refusing, answering, leaving}
+use Rattle.std.specs.Prelude.{◌≡◌, Result, Bool, List, ◌++◌, ℕ, zero, suc, ◌+◌, ltb, length, take, drop}
+use Rattle.refusal.specs.declared.Refusal.{Refusal}
+use Rattle.refusal.specs.Answer.{Answer, accepted, answer_is, Left, left, Tests, passed, refusing, answering, leaving}
 use Rattle.field.specs.declared.ByteOrder.{ByteOrder}
 use Rattle.field.specs.declared.ByteOrder.TheVariants.{HighFirst, LowFirst}
 use Rattle.field.specs.Layout.{number_in, bytes_in}
@@ -32,6 +33,11 @@ order_of (suc code) = LowFirst
 -- 11: the code names neither order
 abbrev pub no_such_order : ℕ → Bool
 no_such_order code = ltb 1 code
+
+-- what a code is taken for: its order, or 11
+abbrev pub OrderOfCode : ℕ → Result ByteOrder Refusal → Type 0
+OrderOfCode code taken =
+    answer_is (λ order. order) taken ≡ answering (refusing (no_such_order code) 11 passed) (accepted (order_of code))
 
 -- 10: part of the field, or all of it, lies past the end of its record, which has this length
 abbrev pub runs_past : ℕ → ℕ → Bool

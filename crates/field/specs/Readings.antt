@@ -1,20 +1,21 @@
 -- The code's own values in the document's terms: its answer to a load, what its store leaves, its four bytes.
 use Prim.{Unit}
-use Rattle.std.specs.Prelude.{List, [], ◌∷◌, ℕ}
-use Rattle.refusal.specs.declared.Verdict.{Verdict}
-use Rattle.refusal.specs.Number.{number_of}
-use Rattle.refusal.specs.Answer.{Answer, accepted, refused, Left, left, verdict_is}
+use Rattle.std.specs.Prelude.{List, [], ◌∷◌, ℕ, Result}
+use Rattle.refusal.specs.declared.Refusal.{Refusal}
+use Rattle.refusal.specs.Answer.{Answer, answer_is, Left, left, verdict_is}
+use Rattle.field.specs.declared.ByteOrder.{ByteOrder}
 use Rattle.field.specs.declared.Four.{Four}
-use Rattle.field.specs.declared.Loaded.{Loaded}
-use Rattle.field.specs.declared.Loaded.TheVariants.{Key, Refused}
+
+-- what the tests of a field give: the order, or the refusal's number
+abbrev pub order_is : Result ByteOrder Refusal → Answer ByteOrder
+order_is asked = answer_is (λ order. order) asked
 
 -- a load's answer: the key, or the refusal's number
-abbrev pub loaded_is : Loaded → Answer ℕ
-loaded_is (Key key) = accepted key
-loaded_is (Refused why) = refused (number_of why)
+abbrev pub loaded_is : Result ℕ Refusal → Answer ℕ
+loaded_is loaded = answer_is (λ key. key) loaded
 
 -- what a store leaves: the record afterwards, and that it was done or the refusal's number
-abbrev pub store_leaves : List ℕ → Verdict → Left (List ℕ) (Unit {0})
+abbrev pub store_leaves : List ℕ → Result (Unit {0}) Refusal → Left (List ℕ) (Unit {0})
 store_leaves bytes answer = left bytes (verdict_is answer)
 
 -- four bytes as a list

@@ -2,35 +2,44 @@
 #![tactic(auto)]
 
 ghost use Rattle.std.specs.Prelude.{◌≡◌, ◌+◌, ◌*◌, ◌/◌, ◌%◌, ◌<◌, ◌≤◌, length, set};
-ghost use Rattle.refusal.specs.Answer.{verdict_is};
+ghost use Rattle.refusal.specs.Answer.{accepted, answering};
 ghost use Rattle.field.specs.Layout.{arranged};
 ghost use Rattle.field.specs.Field.{
   bytes_at,
   put_bytes,
   field_at,
   stored,
+  OrderOfCode,
   order_of,
   runs_past,
   field_tests,
   load_of,
   store_of,
 };
-ghost use Rattle.field.specs.Readings.{loaded_is, store_leaves, four_bytes};
+ghost use Rattle.field.specs.Readings.{order_is, loaded_is, store_leaves, four_bytes};
 
-use refusal::{Refusal, Verdict};
+use refusal::Refusal;
 
 // Which byte of a number stands first.
-#[derive(Clone, Copy)]
+#[derive(Clone, Copy, Debug, PartialEq, Eq)]
 pub enum ByteOrder {
     HighFirst,
     LowFirst,
 }
 
-// What a load answers.
-#[derive(Clone, Copy)]
-pub enum Loaded {
-    Key(u32),
-    Refused(Refusal),
+// The order that a code names; any code over 1 names none and is refused.
+impl TryFrom<u32> for ByteOrder {
+    type Error = Refusal;
+
+    ghost try_from_gives = { OrderOfCode };
+
+    fn try_from(code: u32) -> Result<ByteOrder, Refusal> {
+        match code {
+            0 => Ok(ByteOrder::HighFirst),
+            1 => Ok(ByteOrder::LowFirst),
+            _ => Err(Refusal::NoSuchOrder),
+        }
+    }
 }
 
 // The four bytes of a field, as they stand.
@@ -42,7 +51,10 @@ struct Four(u8, u8, u8, u8);
 fn join(four: Four) -> u32
     ensures { result ≡ four.0 * 16777216 + four.1 * 65536 + four.2 * 256 + four.3 }
 {
-    ((four.0 as u32) << 24) | ((four.1 as u32) << 16) | ((four.2 as u32) << 8) | (four.3 as u32)
+    (u32::from(four.0) << 24)
+        | (u32::from(four.1) << 16)
+        | (u32::from(four.2) << 8)
+        | u32::from(four.3)
 }
 
 // The four bytes of a number, the high byte first.
@@ -101,44 +113,24 @@ fn put_four(bytes: &mut [u8], place: usize, four: Four)
     put(bytes, place + 3, four.3);
 }
 
-// The order that a code names.
-fn order_of(code: u32) -> ByteOrder
-    ensures { result ≡ order_of code }
-{
-    match code {
-        0 => ByteOrder::HighFirst,
-        _ => ByteOrder::LowFirst,
-    }
-}
-
 // Whether a field at a place runs past the end of a record of this length.
 // The length is taken down, so that no sum can wrap.
 fn runs_past(len: usize, place: usize) -> bool
     ensures { result ≡ runs_past len place }
 {
-    if len < 4 {
-        return true;
-    }
-    if len - 4 < place {
-        return true;
-    }
-    false
+    len < 4 || len - 4 < place
 }
 
-// The tests of both entry points, in their order: 11, then 10.
+// The tests of both entry points, in their order: 11, then 10. Accepted, the order that the code names.
 #[tactic(auto, unfolding(crate::specs::Field::field_tests))]
-fn field_verdict(len: usize, place: usize, code: u32) -> Verdict
-    ensures { verdict_is result ≡ field_tests len place code }
+fn field_asks(len: usize, place: usize, code: u32) -> Result<ByteOrder, Refusal>
+    ensures { order_is result ≡ answering (field_tests len place code) (accepted (order_of code)) }
 {
-    let no_such_order = 1 < code;
-    let not_inside = runs_past(len, place);
-    if no_such_order {
-        return Verdict::Refused(Refusal::NoSuchOrder);
+    let order = ByteOrder::try_from(code)?;
+    if runs_past(len, place) {
+        return Err(Refusal::NoRoom);
     }
-    if not_inside {
-        return Verdict::Refused(Refusal::NoRoom);
-    }
-    Verdict::Accepted
+    Ok(order)
 }
 
 // The key that the field at a place holds in an order.
@@ -159,28 +151,20 @@ fn put_key(bytes: &mut [u8], place: usize, order: ByteOrder, key: u32)
 
 // The key that the field at a place holds in the order that the code names, or the refusal.
 #[tactic(auto, using(crate::proofs::Entry::is_inside), unfolding(crate::specs::Field::load_of))]
-pub fn load(bytes: &[u8], place: usize, code: u32) -> Loaded
+pub fn load(bytes: &[u8], place: usize, code: u32) -> Result<u32, Refusal>
     ensures { loaded_is result ≡ load_of bytes.now place code }
 {
-    let verdict = field_verdict(bytes.len(), place, code);
-    match verdict {
-        Verdict::Accepted => Loaded::Key(key_at(bytes, place, order_of(code))),
-        Verdict::Refused(why) => Loaded::Refused(why),
-    }
+    let order = field_asks(bytes.len(), place, code)?;
+    Ok(key_at(bytes, place, order))
 }
 
 // Writes the key's four bytes, in the order that the code names, to the field at a place,
 // or refuses and writes nothing.
 #[tactic(auto, using(crate::proofs::Entry::is_inside), unfolding(crate::specs::Field::store_of))]
-pub fn store(bytes: &mut [u8], place: usize, code: u32, key: u32) -> Verdict
+pub fn store(bytes: &mut [u8], place: usize, code: u32, key: u32) -> Result<(), Refusal>
     ensures { store_leaves bytes.new result ≡ store_of bytes.old place code key }
 {
-    let verdict = field_verdict(bytes.len(), place, code);
-    match verdict {
-        Verdict::Accepted => {
-            put_key(bytes, place, order_of(code), key);
-            Verdict::Accepted
-        }
-        Verdict::Refused(why) => Verdict::Refused(why),
-    }
+    let order = field_asks(bytes.len(), place, code)?;
+    put_key(bytes, place, order, key);
+    Ok(())
 }

@@ -7,7 +7,7 @@ use Prim.Native.String.{String}
 use Rattle.std.proofs.Math.Seq.{drop-append_seam}
 use Rattle.text.specs.Reading.{lost, byte_at, place_after, word, only, digit_of, numeral, number_at, hex_of, pair_at, field_at}
 use Rattle.logic.specs.Quoted.{bytes}
-use Rattle.text.specs.declared.Number.{Number}
+use Rattle.text.specs.declared.Reading.{Reading}
 use Rattle.page.specs.Page.{decimal}
 use Rattle.script.specs.Lines.{line_end}
 use Rattle.grammar.specs.Schedule.{byte_pairs, AllHex, number_text}
@@ -23,10 +23,6 @@ abbrev pub clash : List ℕ → List ℕ → Bool
 clash [] w = false
 clash (a ∷ more) [] = false
 clash (a ∷ more) (b ∷ bs) = cond (eqb b a) (clash more bs) true
-
-clash_if : (t c : Bool) (x : ℕ) → cond t c true ≡ true → (c ≡ true → x ≡ lost) → cond t x lost ≡ lost
-clash_if true c x h f = f h
-clash_if false c x h f = refl
 
 -- the bytes of so many pairs of hex digits
 abbrev pairs_at : List ℕ → (at pairs : ℕ) → List ℕ
@@ -50,9 +46,13 @@ module _ {text : List ℕ} where
         path = ap (drop (length front)) e ∙ drop-append_seam front ahead;
       }
 
+  -- what lies ahead reaches to the end of the text
+  lies_long : {at : ℕ} (ahead : List ℕ) → Lies text at ahead → at + length ahead ≡ length text
+  lies_long {at = at} ahead l = omega (arith, l.fits, sym (length-drop at text) ∙ ap length l.path)
+
   -- where nothing lies ahead, the text ends
   pub lies_end : {at : ℕ} → Lies text at [] → at ≡ length text
-  lies_end {at = at} l = omega (arith, l.fits, sym (length-drop at text) ∙ ap length l.path)
+  lies_end l = omega (arith, lies_long [] l)
 
   -- ---- a byte and a word
 
@@ -62,7 +62,7 @@ module _ {text : List ℕ} where
         ap (byte_at text) (sym (add-zero at)) ∙ sym (get_or-drop at text 0 0) ∙ ap (λ (x : List ℕ). get_or x 0 0) l.path
 
     byte_within : at < length text
-    byte_within = omega (arith, l.fits, sym (length-drop at text) ∙ ap length l.path)
+    byte_within = omega (arith, lies_long (b ∷ ahead) l)
 
     after_lies : Lies text (place_after text at) ahead
     unfolding place_after
@@ -82,8 +82,9 @@ module _ {text : List ℕ} where
   word_lost [] w ahead h l = absurd (true≢false (sym h))
   word_lost (a ∷ more) [] ahead h l = absurd (true≢false (sym h))
   word_lost (a ∷ more) (b ∷ bs) ahead {at = at} h l =
-      rw (byte_is b (bs ++ ahead) l)
-      (clash_if (eqb b a) (clash more bs) _ h (λ c. word_lost more bs ahead c (after_lies b (bs ++ ahead) l)))
+      let rest : clash more bs ≡ true → word text (place_after text at) more ≡ lost =
+      λ c. word_lost more bs ahead c (after_lies b (bs ++ ahead) l) in
+      rw (byte_is b (bs ++ ahead) l) (grind (arith, rest))
 
   -- ---- a number and a field
 
@@ -97,8 +98,8 @@ module _ {text : List ℕ} where
       ap (number_at text) (sym (length-take-le at text l.fits))
       ∙ ap (λ (t : List ℕ). number_at t (length before)) whole
       ∙ reads_back before ahead n short ends in (
-        ap (λ (m : Number). m.value) read,
-        subst (λ (m : Number). Lies text m.next ahead) (sym read) (lies_behind (before ++ decimal n) ahead whole),
+        ap (λ (m : Reading ℕ). m.value) read,
+        subst (λ (m : Reading ℕ). Lies text m.next ahead) (sym read) (lies_behind (before ++ decimal n) ahead whole),
       )
 
   pair_lies : (a b : ℕ) (ahead : List ℕ) {at : ℕ} → hex_of a < 16 → hex_of b < 16 → Lies text at (a ∷ b ∷ ahead)
@@ -122,15 +123,14 @@ module _ {text : List ℕ} where
 
   pub field_lies : (ds ahead : List ℕ) {at : ℕ} → length ds ≡ 8 → AllHex ds → Lies text at (ds ++ ahead)
       → let f = field_at text at in
-      (f.b0 ∷ f.b1 ∷ f.b2 ∷ f.b3 ∷ [] ≡ byte_pairs ds) × Lies text f.next ahead
+      (f.value ≡ byte_pairs ds) × Lies text f.next ahead
   unfolding field_at
   field_lies ds ahead long hex l = pairs_lie 4 ds ahead long hex l
 
   -- ---- a line of a name and a number
 
   pub only_lies : (t : Bool) (ahead : List ℕ) {at : ℕ} → t ≡ true → Lies text at ahead → Lies text (only t at) ahead
-  only_lies true ahead e l = l
-  only_lies false ahead e l = absurd (true≢false (sym e))
+  only_lies t ahead e l = rw e l
 
   -- a line starts with its name
   pub line_first : (name : String) (n : ℕ) (ahead : List ℕ) {at : ℕ} → Lies text at (number_text name n ++ ahead)

@@ -1,12 +1,13 @@
 -- Reading a written number: its first digit, one reading for each further digit, and readings that find no digit and change nothing.
 -- Assumes nothing.
-use Rattle.std.proofs.Common.{◌≡◌, refl, ap, sym, ◌∙◌, Bool, true, false, cond, List, [], ◌∷◌, ◌++◌, append_assoc, ℕ, zero, suc, ◌+◌, ◌-◌, ◌*◌, ◌/◌, ◌%◌, ◌^◌}
-use Rattle.std.proofs.Common.{◌<◌, ◌≤◌, not-suc-le-zero, pow-suc, add-zero, zero-add, suc-add, arith, length, get_or, length-append, get_or-append-add, eqb}
-use Rattle.std.proofs.Common.{ltb, lt-ltb, le-ltb, ne_eqb}
+use Rattle.std.proofs.lemmas.Bool.Decides.{nat_tests}
+use Rattle.std.proofs.Common.{◌≡◌, refl, ap, sym, ◌∙◌, List, [], ◌∷◌, ◌++◌, append_assoc, ℕ, zero, suc, ◌+◌, ◌-◌, ◌*◌, ◌/◌, ◌%◌, ◌^◌}
+use Rattle.std.proofs.Common.{◌<◌, ◌≤◌, not-suc-le-zero, pow-suc, add-zero, zero-add, suc-add, arith, length, get_or, length-append, get_or-append-add}
+use Rattle.std.proofs.Common.{lt-ltb, le-ltb, ne_eqb}
 use Rattle.std.proofs.Math.Logic.{dite}
 use Rattle.std.proofs.Math.Decide.{dec_lt}
 use Rattle.std.proofs.Math.Seq.{get_or_at, append_snoc}
-use Rattle.text.specs.declared.Number.{Number}
+use Rattle.text.specs.declared.Reading.{Reading}
 use Rattle.text.specs.Reading.{byte_at, place_after, digit_of, numeral, first_digit, next_digit}
 use Rattle.page.specs.Page.{digits, decimal}
 use Rattle.grammar.specs.Numerals.{ReadsBack}
@@ -15,7 +16,7 @@ use Rattle.grammar.specs.Numerals.{ReadsBack}
 
 digit_of_lem : (q : ℕ) → q < 10 → digit_of (48 + q) ≡ q
 unfolding digit_of
-digit_of_lem q h = simp (le-ltb (48 + q) 48 (omega arith), lt-ltb (48 + q) 58 (omega arith)) (omega arith)
+digit_of_lem q h = grind (arith, nat_tests)
 
 -- a digit that stands behind `before`
 module _ (before : List ℕ) (q : ℕ) (behind : List ℕ) (at : ℕ) (here : length before ≡ at) where
@@ -42,21 +43,16 @@ byte_behind before behind =
 
 -- ---- readings that find no digit
 
-settled : (a b : Bool) (x : Number) → cond a x (cond b x x) ≡ x
-settled true b x = refl
-settled false true x = refl
-settled false false x = refl
-
 next_stays : (text : List ℕ) (v at : ℕ) → digit_of (byte_at text at) ≡ 10 → next_digit text (numeral v at) ≡ numeral v at
 unfolding next_digit
-next_stays text v at ends = simp ends (settled (eqb v 0) (ltb v 10000) (numeral v at))
+next_stays text v at ends = grind (arith, ends)
 
 -- so many readings
-abbrev more_digits : List ℕ → ℕ → Number → Number
+abbrev more_digits : List ℕ → ℕ → Reading ℕ → Reading ℕ
 more_digits text zero x = x
 more_digits text (suc k) x = next_digit text (more_digits text k x)
 
-digits_stay : (text : List ℕ) (x y : Number) (j i : ℕ) → more_digits text j x ≡ y → next_digit text y ≡ y → more_digits text (i + j) x ≡ y
+digits_stay : (text : List ℕ) (x y : Reading ℕ) (j i : ℕ) → more_digits text j x ≡ y → next_digit text y ≡ y → more_digits text (i + j) x ≡ y
 digits_stay text x y j zero e stays = ap (λ (k : ℕ). more_digits text k x) (zero-add j) ∙ e
 digits_stay text x y j (suc i) e stays =
     ap (λ (k : ℕ). more_digits text k x) (suc-add i j) ∙ ap (next_digit text) (digits_stay text x y j i e stays) ∙ stays

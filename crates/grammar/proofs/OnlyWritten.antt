@@ -1,14 +1,18 @@
 -- A text without a bad line is the text of a schedule: line by line, what was read is an item, and stands as it is written.
 -- Assumes nothing.
-use Rattle.std.proofs.Common.{◌≡◌, refl, ap, sym, subst, ◌∙◌, ◌≢◌, ◌⊎◌, inl, inr, Bool, true, false, cond, ◌&&◌, ◌||◌, true≢false, List, [], ◌∷◌, ◌++◌}
-use Rattle.std.proofs.Common.{append-nil, ℕ, zero, suc, ◌+◌, ◌<◌, ◌≤◌, arith, length, eqb, leb, leb-true, eqb-true}
+use Rattle.std.proofs.lemmas.Bool.Decides.{nat_tests}
+use Rattle.std.proofs.lemmas.Option.{none-some}
+use Rattle.std.proofs.Common.{Option, None, ◌≡◌, refl, ap, sym, subst, ◌∙◌, ◌≢◌, ◌⊎◌, inl}
+use Rattle.std.proofs.Common.{inr, Bool, true, false, cond, ◌&&◌, ◌||◌, true≢false, List, [], ◌∷◌, ◌++◌}
+use Rattle.std.proofs.Common.{append-nil, ℕ, zero, suc, ◌+◌, ◌<◌, ◌≤◌, arith, length, eqb, leb, leb-true}
 use Rattle.std.proofs.Math.Seq.{drop-length}
-use borrow.Author.Tests.{eqb-false}
+use Rattle.std.proofs.lemmas.Bool.{eqb-false}
 use Rattle.text.specs.Reading.{lost, word, number_at, field_at}
 use Rattle.logic.specs.Quoted.{bytes}
 use Rattle.logic.proofs.Cases.{on_cond}
-use Rattle.logic.proofs.Tests.{and_parts}
-use Rattle.text.specs.declared.Number.{Number}
+use Rattle.text.specs.declared.Reading.{Reading}
+use Rattle.calls.specs.declared.Call.TheVariants.{Add, Remove, Contains}
+use Rattle.calls.specs.Calls.{code_of}
 use Rattle.script.specs.Lines.{line_end, verb, verb_at, call_line, step_line, end_line, line_at, ends_body, next_of}
 use Rattle.script.specs.Head.{parties_line, nodes_line, order_line, head_of}
 use Rattle.script.specs.Body.{most_lines, end_bad, last_bad, bad_from, first_bad}
@@ -46,13 +50,9 @@ record BodyAt (text : List ℕ) (seen at : ℕ) : Type 0 where
   ends : Stands text last (number_text "end=" (seen + length items)) (length text)
 
 -- `end=` is good if it gives the number of lines and is the last
-end_good : (seen count next len : ℕ) → end_bad seen count next len ≡ 0 → (count ≡ seen) × (next ≡ len)
+end_good : (seen count next len : ℕ) → end_bad seen count next len ≡ None → (count ≡ seen) × (next ≡ len)
 unfolding end_bad
-end_good seen count next len =
-    on_cond (λ n. n ≡ 0 → (count ≡ seen) × (next ≡ len)) (eqb count seen) _ _
-    (λ c. on_cond (λ n. n ≡ 0 → (count ≡ seen) × (next ≡ len)) (eqb next len) _ _
-    (λ e z. (eqb-true count seen c, eqb-true next len e)) (λ e z. absurd (omega arith)))
-    (λ c z. absurd (omega arith))
+end_good seen count next len z = (grind arith, grind arith)
 
 -- the same number by another name
 renumber : {text : List ℕ} {at n m next : ℕ} → n ≡ m
@@ -69,14 +69,14 @@ module _ (text : List ℕ) (L : length text ≤ 65536) where
   verb_if : (at : ℕ) (a r : Bool) →
       let contains = word text at (bytes " contains ") in
       let remove = word text at (bytes " remove ") in
-      let v = cond a (cond r (verb 2 contains) (verb 1 remove)) (verb 0 (word text at (bytes " add "))) in
-      VerbAt at v.code v.next
+      let v = cond a (cond r (verb Contains contains) (verb Remove remove)) (verb Add (word text at (bytes " add "))) in
+      VerbAt at (code_of v.value) v.next
   unfolding verb_text
   verb_if at true true h = (omega arith, word_stands text L (bytes " contains ") at h)
   verb_if at true false h = (omega arith, word_stands text L (bytes " remove ") at h)
   verb_if at false r h = (omega arith, word_stands text L (bytes " add ") at h)
 
-  verb_stands : (at : ℕ) → VerbAt at (verb_at text at).code (verb_at text at).next
+  verb_stands : (at : ℕ) → VerbAt at (code_of (verb_at text at).value) (verb_at text at).next
   unfolding verb_at
   verb_stands at = verb_if at (eqb (word text at (bytes " add ")) lost) (eqb (word text at (bytes " remove ")) lost)
 
@@ -96,7 +96,7 @@ module _ (text : List ℕ) (L : length text ≤ 65536) where
       let front = word_stands text L (bytes "call=") at number.kept in (
         number.kept,
         record {
-          item = calls n.value v.code field.digits;
+          item = calls n.value (code_of v.value) field.digits;
           good = (leb-true n.value 99 t.0, named.0, field.long, field.hex);
           stands = upto (then (then (then (then front number) named.1) field.stands) end) (sym t.1);
         },
@@ -122,7 +122,7 @@ module _ (text : List ℕ) (L : length text ≤ 65536) where
   abbrev LineAt : ℕ → Line → Type 0
   LineAt at l =
       (ends_body l ≡ false → ItemAt text at (next_of l))
-      × ((seen : ℕ) → last_bad seen l (length text) ≡ 0 → Stands text at (number_text "end=" seen) (length text))
+      × ((seen : ℕ) → last_bad seen l (length text) ≡ None → Stands text at (number_text "end=" seen) (length text))
 
   line_at_lem : (at : ℕ) → LineAt at (line_at text at)
   unfolding line_at last_bad
@@ -133,18 +133,18 @@ module _ (text : List ℕ) (L : length text ≤ 65536) where
       on_cond (LineAt at) (eqb c.next lost) _ _
       (λ p. on_cond (LineAt at) (eqb s.next lost) _ _
       (λ q. on_cond (LineAt at) (eqb e.next lost) _ _
-      (λ r. (λ t. absurd (true≢false t), λ seen z. absurd (omega arith)))
+      (λ r. (λ t. absurd (true≢false t), λ seen z. absurd (none-some _ (sym z))))
       (λ r. (
         λ t. absurd (true≢false t),
         λ seen z.
             let g = end_good seen e.value e.next (length text) z in
             renumber g.0 (upto (end_stands at (eqb-false e.next lost r)) g.1),
       )))
-      (λ q. (λ t. step_stands at (eqb-false s.next lost q), λ seen z. absurd (omega arith))))
-      (λ p. (λ t. (call_stands at (eqb-false c.next lost p)).1, λ seen z. absurd (omega arith)))
+      (λ q. (λ t. step_stands at (eqb-false s.next lost q), λ seen z. absurd (none-some _ (sym z)))))
+      (λ p. (λ t. (call_stands at (eqb-false c.next lost p)).1, λ seen z. absurd (none-some _ (sym z))))
 
-  abbrev BodyIf : (seen at bad : ℕ) → Type 0
-  BodyIf seen at bad = bad ≡ 0 → BodyAt text seen at
+  abbrev BodyIf : (seen at : ℕ) → Option ℕ → Type 0
+  BodyIf seen at bad = bad ≡ None → BodyAt text seen at
 
   none_before : (seen at : ℕ) → Stands text at (number_text "end=" seen) (length text) → BodyAt text seen at
   none_before seen at s =
@@ -168,7 +168,7 @@ module _ (text : List ℕ) (L : length text ≤ 65536) where
 
   body_at : (left seen at : ℕ) → BodyIf seen at (bad_from text seen at left)
   unfolding bad_from
-  body_at zero seen at = λ z. absurd (omega arith)
+  body_at zero seen at = λ z. absurd (none-some _ (sym z))
   body_at (suc left) seen at =
       let l = line_at text at in
       let w = line_at_lem at in
@@ -182,7 +182,7 @@ module _ (text : List ℕ) (L : length text ≤ 65536) where
       → ((order_line text at).value < 2) × Stands text at (order_text (order_line text at).value) (order_line text at).next
   unfolding order_line order_text
   order_stands at =
-      on_cond (λ (n : Number). n.next ≢ lost → (n.value < 2) × Stands text at (order_text n.value) n.next)
+      on_cond (λ (n : Reading ℕ). n.next ≢ lost → (n.value < 2) × Stands text at (order_text n.value) n.next)
       (eqb (word text at (bytes "order=big\n")) lost) _ _
       (λ b h. (omega arith, word_stands text L (bytes "order=little\n") at h))
       (λ b h. (omega arith, word_stands text L (bytes "order=big\n") at h))
@@ -193,13 +193,12 @@ module _ (text : List ℕ) (L : length text ≤ 65536) where
   unfolding parties_line
   parties_stands h =
       let s = line_stands text L "parties=" (λ v. leb 1 v && leb v 16) 0 h in
-      let w = and_parts _ _ s.0 in
-      ((leb-true _ _ w.0, leb-true _ _ w.1), s.1)
+      ((grind (arith, nat_tests, s.0), grind (arith, nat_tests, s.0)), s.1)
 
   -- 0, or 4 to 4,096
   nodes_good : (v : ℕ) (z : Bool) → eqb v 0 ≡ z → z || (leb 4 v && leb v 4096) ≡ true → (v ≡ 0) ⊎ ((4 ≤ v) × (v ≤ 4096))
-  nodes_good v true e h = inl (eqb-true v 0 e)
-  nodes_good v false e h = let w = and_parts (leb 4 v) (leb v 4096) h in inr (leb-true 4 v w.0, leb-true v 4096 w.1)
+  nodes_good v true e h = inl (grind arith)
+  nodes_good v false e h = inr (grind (arith, nat_tests), grind (arith, nat_tests))
 
   nodes_stands : (at : ℕ) → (nodes_line text at).next ≢ lost
       → let v = (number_at text (word text at (bytes "nodes="))).value in
@@ -211,13 +210,10 @@ module _ (text : List ℕ) (L : length text ≤ 65536) where
       (nodes_good v (eqb v 0) refl s.0, s.1)
 
 -- a head that is good, and a body that is
-head_good : (text : List ℕ) → first_bad text (head_of text) ≡ 0
-    → ((head_of text).bad ≡ 0) × (bad_from text 0 (head_of text).next (most_lines text) ≡ 0)
+head_good : (text : List ℕ) → first_bad text (head_of text) ≡ None
+    → ((head_of text).bad ≡ None) × (bad_from text 0 (head_of text).next (most_lines text) ≡ None)
 unfolding first_bad
-head_good text =
-    let h = head_of text in
-    on_cond (λ n. n ≡ 0 → (h.bad ≡ 0) × (bad_from text 0 h.next (most_lines text) ≡ 0)) (eqb h.bad 0) _ _
-    (λ e z. (eqb-true h.bad 0 e, z)) (λ e z. absurd (eqb-false h.bad 0 e z))
+head_good text z = (grind arith, grind arith)
 
 pub only_written : OnlyWritten
 unfolding head_of

@@ -1,14 +1,14 @@
 -- A reading that is not lost has read what stands in the text: words, numbers as `decimal` writes them, hex digits.
 -- Assumes nothing.
-use Rattle.std.proofs.Common.{◌≡◌, refl, ap, sym, subst, ◌∙◌, ◌≢◌, Bool, true, false, cond, List, [], ◌∷◌, ◌++◌, append_assoc, ℕ, zero, suc, ◌+◌, ◌-◌, ◌*◌}
-use Rattle.std.proofs.Common.{◌/◌, ◌%◌, ◌^◌, ◌<◌, ◌≤◌, pow-suc, add-one, arith, length, drop, drop-cons, eqb, ltb, ltb-true, ltb-false, lt-ltb, eqb-true}
+use Rattle.std.proofs.Common.{◌≡◌, refl, ap, sym, subst, ◌∙◌, ◌≢◌, Bool, true, false, cond, List, [], ◌∷◌, ◌++◌, append_assoc, ℕ, zero, suc, ◌+◌, ◌*◌}
+use Rattle.std.proofs.Common.{◌/◌, ◌%◌, ◌^◌, ◌<◌, ◌≤◌, pow-suc, add-one, arith, length, drop, drop-cons, eqb, ltb, ltb-true, lt-ltb, eqb-true}
 use Prim.Native.String.{String}
-use borrow.Author.Tests.{eqb-false}
+use Rattle.std.proofs.lemmas.Bool.{eqb-false}
 use Rattle.text.specs.Reading.{lost, byte_at, place_after, word, only, digit_of, numeral, first_digit, next_digit, number_at, hex_of, no_pair, pair_at}
 use Rattle.text.specs.Reading.{field_at}
 use Rattle.logic.specs.Quoted.{bytes}
 use Rattle.logic.proofs.Cases.{on_cond}
-use Rattle.text.specs.declared.Number.{Number}
+use Rattle.text.specs.declared.Reading.{Reading}
 use Rattle.page.specs.Page.{digits, decimal}
 use Rattle.script.specs.Lines.{line_end}
 use Rattle.grammar.specs.Schedule.{AllHex, number_text}
@@ -47,9 +47,7 @@ Spells b d = d < 10 → 48 + d ≡ b
 
 digit_byte : (b : ℕ) → Spells b (digit_of b)
 unfolding digit_of
-digit_byte b =
-    on_cond (Spells b) (ltb b 48) 10 _ (λ e h. absurd (omega arith))
-    (λ e. on_cond (Spells b) (ltb b 58) (b - 48) 10 (λ f h. omega (arith, ltb-false b 48 e)) (λ f h. absurd (omega arith)))
+digit_byte b h = grind arith
 
 -- enough digits are as good as one more
 digits_more : (k v : ℕ) → v < 10 ^ suc k → digits (suc (suc k)) v ≡ digits (suc k) v
@@ -82,16 +80,14 @@ pub record Hex (text : List ℕ) (at next : ℕ) : Type 0 where
 module _ (text : List ℕ) (L : length text ≤ 65536) where
   -- ---- a byte and a word
 
-  after_if : (at : ℕ) (b : Bool) → ltb at (length text) ≡ b → cond b (at + 1) lost ≢ lost
-      → Stands text at (byte_at text at ∷ []) (cond b (at + 1) lost)
-  after_if at true e h =
-      let l : at < length text = ltb-true at (length text) e in
-      record { kept = λ (x : at ≡ lost). omega arith; path = rw (add-one at, drop-cons text at 0 l) }
-  after_if at false e h = absurd (h refl)
-
   pub byte_stands : (at : ℕ) → place_after text at ≢ lost → Stands text at (byte_at text at ∷ []) (place_after text at)
   unfolding place_after
-  byte_stands at h = after_if at (ltb at (length text)) refl h
+  byte_stands at h =
+      let inside : at < length text = grind (arith, h) in
+      record {
+        kept = λ (x : at ≡ lost). omega (arith, inside);
+        path = rw (lt-ltb at (length text) inside, add-one at, drop-cons text at 0 inside);
+      }
 
   pub word_stands : (w : List ℕ) (at : ℕ) → word text at w ≢ lost → Stands text at w (word text at w)
   unfolding word
@@ -107,7 +103,7 @@ module _ (text : List ℕ) (L : length text ≤ 65536) where
   -- ---- a number
 
   -- if the reading of a number is not lost, the number stands here
-  abbrev NumberAt : ℕ → Number → Type 0
+  abbrev NumberAt : ℕ → Reading ℕ → Type 0
   NumberAt at n = n.next ≢ lost → Stands text at (decimal n.value) n.next
 
   first_stands : (at : ℕ) → NumberAt at (first_digit text at)
@@ -119,7 +115,7 @@ module _ (text : List ℕ) (L : length text ≤ 65536) where
       (byte_stands at h))
       (λ e h. absurd (h refl))
 
-  one_more_lem : (at : ℕ) (n : Number) → NumberAt at n → 0 < n.value → n.value < 10000 → digit_of (byte_at text n.next) < 10
+  one_more_lem : (at : ℕ) (n : Reading ℕ) → NumberAt at n → 0 < n.value → n.value < 10000 → digit_of (byte_at text n.next) < 10
       → NumberAt at (numeral (n.value * 10 + digit_of (byte_at text n.next)) (place_after text n.next))
   one_more_lem at n front positive few small h =
       let b = byte_at text n.next in
@@ -128,7 +124,7 @@ module _ (text : List ℕ) (L : length text ≤ 65536) where
       (decimal_more n.value (digit_of b) b positive few small (digit_byte b small))
       (then (front last.kept) last)
 
-  next_stands : (at : ℕ) (n : Number) → NumberAt at n → NumberAt at (next_digit text n)
+  next_stands : (at : ℕ) (n : Reading ℕ) → NumberAt at n → NumberAt at (next_digit text n)
   unfolding next_digit
   next_stands at n front =
       let b = byte_at text n.next in

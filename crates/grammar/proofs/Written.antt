@@ -1,11 +1,12 @@
 -- The text of a schedule is read as the schedule: each line ahead is read as what it is, and then the next one lies ahead.
 -- Assumes nothing.
-use Rattle.std.proofs.Common.{◌≡◌, refl, ap, sym, subst, ◌∙◌, ◌≢◌, ◌⊎◌, ⊎_elim, Bool, true, false, ◌&&◌, ◌||◌, List, [], ◌∷◌, ◌++◌, append-nil, ℕ, zero, suc}
-use Rattle.std.proofs.Common.{◌+◌, ◌*◌, ◌<◌, ◌≤◌, arith, length, get_or, length-append, eqb, leb, le-leb, eq-eqb, ne_eqb, eqb-true}
-use borrow.Author.Tests.{eqb-false}
+use Rattle.std.proofs.lemmas.Bool.Decides.{nat_tests}
+use Rattle.std.proofs.Common.{None, ◌≡◌, refl, ap, sym, subst, ◌∙◌, ◌≢◌, ◌⊎◌, Bool, true, false, ◌&&◌, ◌||◌, List, [], ◌∷◌, ◌++◌, append-nil, ℕ, zero, suc}
+use Rattle.std.proofs.Common.{◌+◌, ◌*◌, ◌<◌, ◌≤◌, arith, length, get_or, length-append, eqb, leb, le-leb, eq-eqb, ne_eqb}
 use Rattle.text.specs.Reading.{lost, word, digit_of, number_at}
 use Rattle.logic.specs.Quoted.{bytes}
 use Rattle.page.specs.Page.{decimal}
+use Rattle.calls.specs.Calls.{code_of}
 use Rattle.script.specs.Lines.{verb_at, call_line, step_line, end_line, line_at, ends_body, next_of}
 use Rattle.script.specs.Head.{parties_line, rows_of, nodes_line, order_line, first_lost, head_of}
 use Rattle.script.specs.Body.{most_lines, body_from, end_bad, last_bad, bad_from, first_bad}
@@ -27,7 +28,6 @@ use Rattle.grammar.specs.Schedule.{
 }
 use Rattle.grammar.specs.Claims.{Says, AllSay, ReadAs, Written}
 use Rattle.grammar.proofs.Stands.{line_stands}
-use Rattle.logic.proofs.Cases.{on_cond}
 use Rattle.grammar.proofs.OnlyWritten.{call_stands}
 use Rattle.grammar.proofs.Lies.{
   Lies,
@@ -45,15 +45,12 @@ use Rattle.grammar.proofs.Lies.{
 
 -- what is lost unless a word was found, is lost
 lost_if : (next found : ℕ) (t : Bool) → eqb next lost ≡ t → (next ≢ lost → found ≢ lost) → found ≡ lost → t ≡ true
-lost_if next found true e f g = refl
-lost_if next found false e f g = absurd (f (eqb-false next lost e) g)
+lost_if next found t e f g = grind (arith, f)
 
 -- no verb starts with a digit
 verb_first : (code : ℕ) (ahead : List ℕ) → digit_of (get_or (verb_text code ++ ahead) 0 0) ≡ 10
 unfolding verb_text digit_of
-verb_first code ahead =
-    let P : List ℕ → Type 0 = λ w. digit_of (get_or (w ++ ahead) 0 0) ≡ 10 in
-    on_cond P (eqb code 0) _ _ (λ e. refl) (λ e. on_cond P (eqb code 1) _ _ (λ f. refl) (λ f. refl))
+verb_first code ahead = grind arith
 
 module _ (text : List ℕ) (L : length text ≤ 65536) where
   kept : {at : ℕ} {ahead : List ℕ} → Lies text at ahead → eqb at lost ≡ false
@@ -65,27 +62,19 @@ module _ (text : List ℕ) (L : length text ≤ 65536) where
   off : (v w ahead : List ℕ) {at : ℕ} → clash v w ≡ true → Lies text at (w ++ ahead) → eqb (word text at v) lost ≡ true
   off v w ahead {at = at} h l = eq-eqb (word text at v) lost (word_lost v w ahead h l)
 
-  -- if a verb lies ahead, its code is read
-  abbrev ReadVerb : (code : ℕ) → List ℕ → ℕ → List ℕ → Type 0
-  ReadVerb code ahead at w = Lies text at (w ++ ahead) → ((verb_at text at).code ≡ code) × Lies text (verb_at text at).next ahead
-
-  verb_lies : (code : ℕ) (ahead : List ℕ) (at : ℕ) → code < 3 → ReadVerb code ahead at (verb_text code)
+  -- if a verb lies ahead, its call is read
+  verb_lies : (code : ℕ) (ahead : List ℕ) {at : ℕ} → code < 3 → Lies text at (verb_text code ++ ahead)
+      → (code_of (verb_at text at).value ≡ code) × Lies text (verb_at text at).next ahead
   unfolding verb_at verb_text
-  verb_lies code ahead at known =
-      let add = bytes " add " in
-      let remove = bytes " remove " in
+  verb_lies zero ahead known l = let w = word_lies (bytes " add ") ahead l in rw (kept w) (refl, w)
+  verb_lies (suc zero) ahead known l =
+      let w = word_lies (bytes " remove ") ahead l in
+      rw (off (bytes " add ") (bytes " remove ") ahead refl l, kept w) (refl, w)
+  verb_lies (suc (suc zero)) ahead known l =
       let contains = bytes " contains " in
-      on_cond (ReadVerb code ahead at) (eqb code 0) _ _
-      (λ e l. let w = word_lies add ahead l in rw (kept w) (sym (eqb-true code 0 e), w))
-      (λ e. on_cond (ReadVerb code ahead at) (eqb code 1) _ _
-      (λ f l. let w = word_lies remove ahead l in
-      let a = off add remove ahead refl l in
-      rw (a, kept w) (sym (eqb-true code 1 f), w))
-      (λ f. let third : 2 ≡ code = omega (arith, known, eqb-false code 0 e, eqb-false code 1 f) in
-      λ l. let w = word_lies contains ahead l in
-      let a = off add contains ahead refl l in
-      let r = off remove contains ahead refl l in
-      rw (a, r) (third, w)))
+      let w = word_lies contains ahead l in
+      rw (off (bytes " add ") contains ahead refl l, off (bytes " remove ") contains ahead refl l) (refl, w)
+  verb_lies (suc (suc (suc more))) ahead known l = absurd (omega (arith, known))
 
   call_lies : (party code : ℕ) (ds ahead : List ℕ) {at : ℕ} → GoodItem (calls party code ds)
       → Lies text at (item_text (calls party code ds) ++ ahead)
@@ -102,7 +91,7 @@ module _ (text : List ℕ) (L : length text ≤ 65536) where
       let c = split (call ++ decimal party) (verb_text code) field b in
       let number = number_lies party named (omega (arith, good.0)) (verb_first code field)
       (word_lies call (decimal party ++ named) (split call (decimal party) named c)) in
-      let verb = verb_lies code field n.next good.1 number.1 in
+      let verb = verb_lies code field good.1 number.1 in
       let read = field_lies ds end good.2 good.3 verb.1 in (
         (number.0, verb.0, read.0),
         only_lies (leb n.value 99) ahead (ap (λ (v : ℕ). leb v 99) number.0 ∙ le-leb party 99 good.0)
@@ -151,7 +140,7 @@ module _ (text : List ℕ) (L : length text ≤ 65536) where
   end_lies n short l = line_lies "end=" (λ v. true) n [] short refl l
 
   last_lies : (seen : ℕ) {at : ℕ} → seen < 100000 → Lies text at (number_text "end=" seen ++ [])
-      → (ends_body (line_at text at) ≡ true) × (last_bad seen (line_at text at) (length text) ≡ 0)
+      → (ends_body (line_at text at) ≡ true) × (last_bad seen (line_at text at) (length text) ≡ None)
   unfolding line_at last_bad end_bad
   last_lies seen {at = at} short l =
       let e = end_lies seen short l in
@@ -169,7 +158,7 @@ module _ (text : List ℕ) (L : length text ≤ 65536) where
 
   body_good : (items : List Item) (left seen count : ℕ) {at : ℕ} → GoodItems items → length items < left
       → count ≡ seen + length items → count < 100000 → Lies text at (items_text items ++ (number_text "end=" count ++ []))
-      → (bad_from text seen at left ≡ 0) × AllSay (body_from text at left) items
+      → (bad_from text seen at left ≡ None) × AllSay (body_from text at left) items
   unfolding bad_from body_from
   body_good items zero seen count good enough e short l = absurd (omega arith)
   body_good [] (suc left) seen count {at = at} good enough e short l =
@@ -192,9 +181,7 @@ module _ (text : List ℕ) (L : length text ≤ 65536) where
       (rw (le-leb 1 n good.0, le-leb n 16 good.1) refl) l
 
   nodes_test : (n : ℕ) → (n ≡ 0) ⊎ ((4 ≤ n) × (n ≤ 4096)) → (n < 100000) × (eqb n 0 || (leb 4 n && leb n 4096) ≡ true)
-  nodes_test n =
-      ⊎_elim (λ (e : n ≡ 0). (omega arith, rw (eq-eqb n 0 e) refl))
-      (λ w. (omega (arith, w), rw (ne_eqb n 0 (λ e. omega (arith, w)), le-leb 4 n w.0, le-leb n 4096 w.1) refl))
+  nodes_test n h = (grind (arith, h), grind (arith, nat_tests, h))
 
   nodes_lies : (n : ℕ) (ahead : List ℕ) {at : ℕ} → (n ≡ 0) ⊎ ((4 ≤ n) × (n ≤ 4096))
       → Lies text at (number_text "nodes=" n ++ ahead)
@@ -206,21 +193,15 @@ module _ (text : List ℕ) (L : length text ≤ 65536) where
       (ap rows_of m.0, m.1)
 
   -- if an order lies ahead, its code is read
-  abbrev ReadOrder : (order : ℕ) → List ℕ → ℕ → List ℕ → Type 0
-  ReadOrder order ahead at w =
-      Lies text at (w ++ ahead) → ((order_line text at).value ≡ order) × Lies text (order_line text at).next ahead
-
-  order_lies : (order : ℕ) (ahead : List ℕ) (at : ℕ) → order < 2 → ReadOrder order ahead at (order_text order)
+  order_lies : (order : ℕ) (ahead : List ℕ) {at : ℕ} → order < 2 → Lies text at (order_text order ++ ahead)
+      → ((order_line text at).value ≡ order) × Lies text (order_line text at).next ahead
   unfolding order_line order_text
-  order_lies order ahead at known =
-      let big = bytes "order=big\n" in
+  order_lies zero ahead known l = let w = word_lies (bytes "order=big\n") ahead l in rw (kept w) (refl, w)
+  order_lies (suc zero) ahead known l =
       let little = bytes "order=little\n" in
-      on_cond (ReadOrder order ahead at) (eqb order 0) _ _
-      (λ e l. let w = word_lies big ahead l in rw (kept w) (sym (eqb-true order 0 e), w))
-      (λ e. let second : 1 ≡ order = omega (arith, known, eqb-false order 0 e) in
-      λ l. let w = word_lies little ahead l in
-      let b = off big little ahead refl l in
-      rw b (second, w))
+      let w = word_lies little ahead l in
+      rw (off (bytes "order=big\n") little ahead refl l) (refl, w)
+  order_lies (suc (suc more)) ahead known l = absurd (omega (arith, known))
 
 -- ---- fuel enough
 
@@ -257,8 +238,7 @@ text_read text s L good e =
     let d = split parties nodes (order ++ (items ++ (end ++ []))) c in
     let p = parties_lies text L s.parties (nodes ++ (order ++ (items ++ (end ++ [])))) good.parties d in
     let n = nodes_lies text L s.nodes (order ++ (items ++ (end ++ []))) good.nodes p.1 in
-    let on = (nodes_line text (parties_line text).next).next in
-    let o = order_lies text L s.order (items ++ (end ++ [])) on good.order n.1 in
+    let o = order_lies text L s.order (items ++ (end ++ [])) good.order n.1 in
     let all = body_good text L s.items (most_lines text) 0 (length s.items) good.items
     (most_enough text (length s.items) long) (omega arith) (omega (arith, long)) o.1 in
     record {

@@ -1,7 +1,8 @@
 -- A text of at most 65,536 bytes passes the reading of a schedule exactly if it is the text of a schedule,
 -- and then it is read as that schedule.
 use Prim.{Unit}
-use Rattle.std.specs.Prelude.{◌≡◌, List, [], ◌∷◌, ℕ, ◌≤◌, length}
+use Rattle.std.specs.Prelude.{None, ◌≡◌, List, [], ◌∷◌, ℕ, ◌≤◌, length}
+use Rattle.calls.specs.Calls.{code_of}
 use Rattle.script.specs.Head.{rows_of, head_of}
 use Rattle.script.specs.Body.{first_bad, body_of}
 use Rattle.script.specs.declared.Line.{Line}
@@ -16,12 +17,12 @@ pub record ScheduleOf (text : List ℕ) : Type 0 where
 
 -- a text of at most 65,536 bytes without a bad line is the text of a schedule
 abbrev pub OnlyWritten : Type 0
-OnlyWritten = (text : List ℕ) → length text ≤ 65536 → first_bad text (head_of text) ≡ 0 → ScheduleOf text
+OnlyWritten = (text : List ℕ) → length text ≤ 65536 → first_bad text (head_of text) ≡ None → ScheduleOf text
 
 -- what a line says is what an item says
 abbrev pub Says : Line → Item → Type 0
 Says (Call c) (calls party code digits) =
-    (c.party ≡ party) × (c.code ≡ code) × (c.b0 ∷ c.b1 ∷ c.b2 ∷ c.b3 ∷ [] ≡ byte_pairs digits)
+    (c.party ≡ party) × (code_of c.call ≡ code) × (c.field ≡ byte_pairs digits)
 Says (Call c) (steps party) = ⊥
 Says (Step number next) (calls party code digits) = ⊥
 Says (Step number next) (steps party) = number ≡ party
@@ -37,7 +38,7 @@ AllSay (line ∷ lines) (item ∷ items) = Says line item × AllSay lines items
 
 -- a text is read as a schedule; a schedule of 0 nodes has the rows that 0 stands for
 pub record ReadAs (text : List ℕ) (s : Schedule) : Type 0 where
-  pub none_bad : first_bad text (head_of text) ≡ 0
+  pub none_bad : first_bad text (head_of text) ≡ None
   pub parties : (head_of text).parties ≡ s.parties
   pub nodes : (head_of text).nodes ≡ rows_of s.nodes
   pub order : (head_of text).order ≡ s.order

@@ -1,16 +1,14 @@
 -- On good form an accepted call or move is the unchecked one; what a refusal leaves is what came; an answer tells its case.
 -- Assumes nothing.
-use mathlib.Core.Path.{◌≡◌, refl, ap, sym}
+use mathlib.Core.Path.{◌≡◌, refl, ap}
 use mathlib.Core.Bool.{true, false}
 use Prim.Native.Nat.{ℕ}
 use lib.ListN.{length}
-use Rattle.refusal.specs.Number.{number_of}
 use Rattle.refusal.specs.Answer.{accepted, refused, left, Tests, passed, leaving}
 use Rattle.refusal.proofs.Laws.{not_both}
-use Rattle.refusal.proofs.Told.{numbers_differ}
 use Rattle.list_unchecked.specs.Unchecked.{Machine, machine, unchecked_call, unchecked_move}
 use Rattle.list_form.specs.Form.{rows_in, good_form}
-use Rattle.list.specs.declared.Listed.TheVariants.{Keys, Refused}
+use Rattle.refusal.proofs.Told.{answers_differ}
 use Rattle.calls.specs.Words.{word_of}
 use Rattle.list_fresh.specs.Fresh.{fresh_table}
 use Rattle.list_party.specs.State.{resting_state}
@@ -87,7 +85,4 @@ refused_listing_leaves m places = refusal_leaves (list_tests m (length places)) 
 -- ---- answers
 
 pub listed_differ : ListedDiffer
-listed_differ (Keys a) (Keys b) e = let same : a ≡ b = cc in ap Keys same
-listed_differ (Keys a) (Refused b) e = absurd (not_both e)
-listed_differ (Refused a) (Keys b) e = absurd (not_both (sym e))
-listed_differ (Refused a) (Refused b) e = let same : number_of a ≡ number_of b = cc in ap Refused (numbers_differ a b same)
+listed_differ = answers_differ _ _ (λ count. count) (λ x y same. same)

@@ -1,25 +1,13 @@
--- The answers of the code in the document's terms: each case of each enum with its number and values.
-use Prim.{Unit}
-use Rattle.std.specs.Prelude.{ℕ}
-use Rattle.refusal.specs.Number.{number_of}
-use Rattle.refusal.specs.Answer.{Answer, accepted, refused, Left, left, verdict_is}
-use Rattle.calls.specs.Words.{Word, reply_is}
-use Rattle.list_rows.specs.Table.{Table}
-use Rattle.list_unchecked.specs.Unchecked.{Machine, machine}
-use Rattle.list.specs.declared.After.{After}
-use Rattle.list.specs.declared.Stepped.{Stepped}
-use Rattle.list.specs.declared.Listed.{Listed}
-use Rattle.list.specs.declared.Listed.TheVariants.{Keys, Refused}
+-- The answers of the code in the document's terms.
+use Rattle.std.specs.Prelude.{ℕ, Result}
+use Rattle.refusal.specs.declared.Refusal.{Refusal}
+use Rattle.refusal.specs.Answer.{Answer, answer_is}
+use Rattle.calls.specs.declared.Call.{Call}
 
--- a set-up or a call leaves the columns and the state, and says that it is accepted or the refusal's number
-abbrev pub after_is : Table → After → Left Machine (Unit {0})
-after_is columns after = left (machine columns after.state) (verdict_is after.verdict)
-
--- a move leaves the columns and the state, and says nothing, yes or no, or the refusal's number
-abbrev pub step_is : Table → Stepped → Left Machine Word
-step_is columns step = left (machine columns step.state) (reply_is step.reply)
+-- what a call asks gives the call of its code, or the refusal's number
+abbrev pub asked_is : Result Call Refusal → Answer Call
+asked_is asked = answer_is (λ call. call) asked
 
 -- a listing says how many keys it has listed, or the refusal's number
-abbrev pub listed_is : Listed → Answer ℕ
-listed_is (Keys count) = accepted count
-listed_is (Refused why) = refused (number_of why)
+abbrev pub listed_is : Result ℕ Refusal → Answer ℕ
+listed_is listed = answer_is (λ count. count) listed

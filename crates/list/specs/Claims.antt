@@ -1,5 +1,5 @@
 -- What is proved of the entry points, beside their contracts.
-use Rattle.std.specs.Prelude.{◌≡◌, true, false, List, ℕ, ◌+◌}
+use Rattle.std.specs.Prelude.{◌≡◌, true, false, List, ℕ, ◌+◌, Result}
 use Rattle.refusal.specs.Answer.{accepted, refused, left, passed, leaving}
 use Rattle.calls.specs.Calls.{call_named}
 use Rattle.calls.specs.Words.{Word}
@@ -8,7 +8,7 @@ use Rattle.list_party.specs.State.{resting_state}
 use Rattle.list_unchecked.specs.Unchecked.{Machine, machine, unchecked_call, unchecked_move}
 use Rattle.list_form.specs.Form.{rows_in, good_form}
 use Rattle.list_chain.specs.Chain.{rises, live_from}
-use Rattle.list.specs.declared.Listed.{Listed}
+use Rattle.refusal.specs.declared.Refusal.{Refusal}
 use Rattle.list.specs.Answers.{listed_is}
 use Rattle.list.specs.Engine.{bad_table, set_up_of, call_asks, call_of, move_asks, accepting, move_of, list_of}
 
@@ -77,4 +77,4 @@ RefusedListingLeaves = (m : Machine) (places : List ℕ) (number : ℕ) → (lis
 -- ---- an answer tells its case: the promises, made in the document's terms, determine the enums
 
 abbrev pub ListedDiffer : Type 0
-ListedDiffer = (a b : Listed) → listed_is a ≡ listed_is b → a ≡ b
+ListedDiffer = (a b : Result ℕ Refusal) → listed_is a ≡ listed_is b → a ≡ b

@@ -92,11 +92,14 @@ chain_rises m = rises m.table m.state.taken head_nxt
 abbrev pub live_keys : Machine → List ℕ
 live_keys m = live_from m.table m.state.taken head_nxt
 
+-- 3, 10
+abbrev pub list_asks : Machine → (places : ℕ) → Tests
+list_asks m places =
+    refusing (not (chain_rises m)) 3
+    (refusing (ltb places (length (live_keys m))) 10 passed)
+
 abbrev pub list_tests : Machine → (places : ℕ) → Tests
-list_tests m places =
-    form_tests m
-    (refusing (not (chain_rises m)) 3
-    (refusing (ltb places (length (live_keys m))) 10 passed))
+list_tests m places = form_tests m (list_asks m places)
 
 -- the first places hold the keys, and no other place is written
 abbrev pub places_with : List ℕ → List ℕ → List ℕ

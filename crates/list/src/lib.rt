@@ -1,266 +1,179 @@
 // The entry points of the list: set-up, call, move and listing, each with its refusals in their order.
 #![tactic(auto)]
 
-ghost use Rattle.std.specs.Prelude.{◌≡◌, not, ltb};
-ghost use Rattle.refusal.specs.Answer.{left, verdict_is, refusing, passed};
-ghost use Rattle.list_rows.specs.Table.{before, before_mut, after};
-ghost use Rattle.list_unchecked.specs.Unchecked.{machine};
+ghost use Rattle.std.specs.Prelude.{◌≡◌, length};
+ghost use Rattle.refusal.specs.Answer.{left, accepted, passed, answering, verdict_is};
+ghost use Rattle.calls.specs.Calls.{call_named};
+ghost use Rattle.calls.specs.Words.{reply_is};
+ghost use Rattle.list_rows.specs.Table.{table_of, SameColumns};
+ghost use Rattle.list_unchecked.specs.Unchecked.{machine, machine_of};
 ghost use Rattle.list.specs.Engine.{
-  bad_columns,
+  bad_table,
   form_tests,
-  bad_parties,
+  set_up_tests,
   set_up_of,
   no_row,
   call_asks,
   call_of,
   move_asks,
   move_of,
+  live_keys,
+  list_asks,
   list_of,
 };
-ghost use Rattle.list.specs.Answers.{after_is, step_is, listed_is};
+ghost use Rattle.list.specs.Answers.{asked_is, listed_is};
 
-use calls::{Call, Reply};
+use calls::{Call, Said};
 use list_chain::{chain_rises, live_count, write_live};
 use list_form::{columns_agree, good_form};
 use list_fresh::fresh_table;
 use list_party::State;
-use refusal::{Refusal, Verdict};
+use list_rows::Columns;
+use list_unchecked::Engine;
+use refusal::Refusal;
 
-// What a set-up or a call hands back: the state, and whether it was accepted.
-#[derive(Clone, Copy)]
-pub struct After {
-    pub state: State,
-    pub verdict: Verdict,
-}
-
-// What a move hands back: the state and the answer.
-#[derive(Clone, Copy)]
-pub struct Stepped {
-    pub state: State,
-    pub reply: Reply,
-}
-
-// What a listing is answered: how many keys it has listed, or a refusal.
-#[derive(Clone, Copy)]
-pub enum Listed {
-    Keys(usize),
-    Refused(Refusal),
-}
-
-// Whether the columns, given by their lengths, differ, or are too short or too long.
-fn bad_columns(kind: usize, key: usize, next: usize, back: usize) -> bool
-    ensures { result ≡ bad_columns kind key next back }
+// Whether the columns differ in length, or are too short or too long.
+fn bad_columns(columns: &Columns<'_>) -> bool
+    ensures { result ≡ bad_table (table_of columns.now) }
 {
-    !(columns_agree(kind, key, next, back) & ((4 <= kind) & (kind <= 4096)))
+    let rows = columns.kind.len();
+    let agree = columns_agree(
+        rows,
+        columns.key.len(),
+        columns.next.len(),
+        columns.back.len(),
+    );
+    !(agree & ((4 <= rows) & (rows <= 4096)))
 }
 
 // 1, 2.
-fn set_up_verdict(kind: usize, key: usize, next: usize, back: usize, parties: u32) -> Verdict
-    ensures { verdict_is result
-        ≡ refusing (bad_columns kind key next back) 1 (refusing (bad_parties parties) 2 passed) }
+fn set_up_asks(columns: &Columns<'_>, parties: u32) -> Result<(), Refusal>
+    ensures { verdict_is result ≡ set_up_tests (table_of columns.now) parties }
 {
-    if bad_columns(kind, key, next, back) {
-        return Verdict::Refused(Refusal::BadColumns);
+    if bad_columns(columns) {
+        return Err(Refusal::BadColumns);
     }
     if (parties == 0) | (16 < parties) {
-        return Verdict::Refused(Refusal::BadParties);
+        return Err(Refusal::BadParties);
     }
-    Verdict::Accepted
+    Ok(())
 }
 
 // Lays an empty list for so many parties into the columns, whatever stood there. Refusals 1, 2; refused, the columns
-// are as they were, and the state that came is handed back.
-pub fn set_up(
-    kind: &mut [u8],
-    key: &mut [u32],
-    next: &mut [u16],
-    back: &mut [u16],
-    came: State,
-    parties: u32,
-) -> After
-    ensures { after_is (after kind key next back) result
-        ≡ set_up_of (machine (before_mut kind key next back) came) parties }
+// and the state are as they were.
+#[tactic(auto, unfolding(crate::specs::Engine::set_up_of))]
+pub fn set_up(engine: &mut Engine<'_>, parties: u32) -> Result<(), Refusal>
+    ensures leaves { left (machine_of engine.new) (verdict_is result) ≡ set_up_of (machine_of engine.old) parties }
+    ensures lent { SameColumns engine.old.columns engine.new.columns }
 {
-    let verdict = set_up_verdict(kind.len(), key.len(), next.len(), back.len(), parties);
-    match verdict {
-        Verdict::Accepted => {
-            fresh_table(kind, key, next, back);
-            After {
-                state: State::resting(parties as u8, 4),
-                verdict,
-            }
-        }
-        Verdict::Refused(_) => After {
-            state: came,
-            verdict,
-        },
-    }
+    set_up_asks(&engine.columns.view(), parties)?;
+    fresh_table(&mut engine.columns);
+    engine.state = State::resting(parties as u8, 4);
+    Ok(())
 }
 
 // Whether an ADD or a REMOVE has no row to take.
 fn no_row(unpublished: bool, taken: u16, rows: usize, call: Call) -> bool
     ensures { result ≡ no_row unpublished taken rows call }
 {
-    !call.is_contains() & (!unpublished & ((taken as usize) == rows))
+    !call.is_contains() & (!unpublished & (usize::from(taken) == rows))
 }
 
-// 4, 5, 6, 7: what a call asks of a state of good form, with columns of so many rows. Does not test for 1 and 3.
-pub fn call_asks(state: State, rows: usize, number: u32, code: u32) -> Verdict
-    ensures { verdict_is result ≡ call_asks state rows number code }
+// 4, 5, 6, 7: what a call asks of a state of good form, with columns of so many rows; accepted, the call of the code.
+// Does not test for 1 and 3.
+pub fn call_asks(state: &State, rows: usize, number: u32, code: u32) -> Result<Call, Refusal>
+    ensures { asked_is result ≡ answering (call_asks state.now rows number code) (accepted (call_named code)) }
 {
-    if (state.count as u32) <= number {
-        return Verdict::Refused(Refusal::NoSuchParty);
+    if u32::from(state.count) <= number {
+        return Err(Refusal::NoSuchParty);
     }
     let party = state.party_at(number);
-    let place = party.place;
-    if !place.is_idle() {
-        return Verdict::Refused(Refusal::PartyBusy);
+    if !party.place.is_idle() {
+        return Err(Refusal::PartyBusy);
     }
-    if 2 < code {
-        return Verdict::Refused(Refusal::NoSuchCall);
+    let call = Call::try_from(code)?;
+    if no_row(party.unpublished, state.taken, rows, call) {
+        return Err(Refusal::TableFull);
     }
-    if no_row(party.unpublished, state.taken, rows, Call::named(code)) {
-        return Verdict::Refused(Refusal::TableFull);
-    }
-    Verdict::Accepted
+    Ok(call)
 }
 
 // 4, 8, 9: what a move asks of a state of good form. Does not test for 1 and 3.
-pub fn move_asks(state: State, number: u32) -> Verdict
-    ensures { verdict_is result ≡ move_asks state number }
+pub fn move_asks(state: &State, number: u32) -> Result<(), Refusal>
+    ensures { verdict_is result ≡ move_asks state.now number }
 {
-    if (state.count as u32) <= number {
-        return Verdict::Refused(Refusal::NoSuchParty);
+    if u32::from(state.count) <= number {
+        return Err(Refusal::NoSuchParty);
     }
-    let party = state.party_at(number);
-    let place = party.place;
-    if place.is_idle() {
-        return Verdict::Refused(Refusal::PartyIdle);
+    if state.party_at(number).place.is_idle() {
+        return Err(Refusal::PartyIdle);
     }
     if state.tallies.moves == 16777216 {
-        return Verdict::Refused(Refusal::MovesSpent);
+        return Err(Refusal::MovesSpent);
     }
-    Verdict::Accepted
+    Ok(())
 }
 
-// 1, 3, then what the entry point itself has found.
-fn form_verdict(
-    kind: &[u8],
-    key: &[u32],
-    next: &[u16],
-    back: &[u16],
-    state: State,
-    later: Verdict,
-) -> Verdict
-    ensures { verdict_is result ≡ form_tests (machine (before kind key next back) state) (verdict_is later) }
+// 1, 3: what every entry point but a set-up asks first.
+fn form_asks(columns: &Columns<'_>, state: &State) -> Result<(), Refusal>
+    ensures { verdict_is result ≡ form_tests (machine (table_of columns.now) state.now) passed }
 {
-    if bad_columns(kind.len(), key.len(), next.len(), back.len()) {
-        return Verdict::Refused(Refusal::BadColumns);
+    if bad_columns(columns) {
+        return Err(Refusal::BadColumns);
     }
-    if !good_form(kind, key, next, back, state) {
-        return Verdict::Refused(Refusal::BadForm);
+    if !good_form(columns, state) {
+        return Err(Refusal::BadForm);
     }
-    later
+    Ok(())
 }
 
 // Starts a call of a party. Refusals 1, 3, 4, 5, 6, 7; refused, all is as it came.
-pub fn call(
-    kind: &mut [u8],
-    key: &mut [u32],
-    next: &mut [u16],
-    back: &mut [u16],
-    state: State,
-    number: u32,
-    code: u32,
-    wanted: u32,
-) -> After
-    ensures { after_is (after kind key next back) result
-        ≡ call_of (machine (before_mut kind key next back) state) number code wanted }
+#[tactic(auto, unfolding(crate::specs::Engine::call_of))]
+pub fn call(engine: &mut Engine<'_>, number: u32, code: u32, wanted: u32) -> Result<(), Refusal>
+    ensures leaves { left (machine_of engine.new) (verdict_is result) ≡ call_of (machine_of engine.old) number code wanted }
+    ensures lent { SameColumns engine.old.columns engine.new.columns }
 {
-    let later = call_asks(state, kind.len(), number, code);
-    let verdict = form_verdict(kind, key, next, back, state, later);
-    match verdict {
-        Verdict::Accepted => After {
-            state: list_unchecked::call(
-                kind,
-                key,
-                next,
-                back,
-                state,
-                number,
-                Call::named(code),
-                wanted,
-            ),
-            verdict,
-        },
-        Verdict::Refused(_) => After { state, verdict },
-    }
+    form_asks(&engine.columns.view(), &engine.state)?;
+    let call = call_asks(&engine.state, engine.columns.kind.len(), number, code)?;
+    engine.call_unchecked(number, call, wanted);
+    Ok(())
 }
 
 // Makes one move of a party. Refusals 1, 3, 4, 8, 9; refused, all is as it came.
-pub fn step(
-    kind: &mut [u8],
-    key: &mut [u32],
-    next: &mut [u16],
-    back: &mut [u16],
-    state: State,
-    number: u32,
-) -> Stepped
-    ensures { step_is (after kind key next back) result
-        ≡ move_of (machine (before_mut kind key next back) state) number }
+#[tactic(auto, unfolding(crate::specs::Engine::move_of))]
+pub fn step(engine: &mut Engine<'_>, number: u32) -> Result<Said, Refusal>
+    ensures leaves { left (machine_of engine.new) (reply_is result) ≡ move_of (machine_of engine.old) number }
+    ensures lent { SameColumns engine.old.columns engine.new.columns }
 {
-    let verdict = form_verdict(kind, key, next, back, state, move_asks(state, number));
-    match verdict {
-        Verdict::Accepted => {
-            let done = list_unchecked::step(kind, key, next, back, state, number);
-            let after = done.state;
-            let said = done.said;
-            Stepped {
-                state: after,
-                reply: Reply::Heard(said),
-            }
-        }
-        Verdict::Refused(why) => Stepped {
-            state,
-            reply: Reply::Refused(why),
-        },
-    }
+    form_asks(&engine.columns.view(), &engine.state)?;
+    move_asks(&engine.state, number)?;
+    Ok(engine.step_unchecked(number))
 }
 
-// 3, 10: what a listing asks of a state of good form.
-fn list_asks(rises: bool, count: usize, places: usize) -> Verdict
-    ensures { verdict_is result ≡ refusing (not rises) 3 (refusing (ltb places count) 10 passed) }
+// 3, 10: what a listing asks of a state of good form; accepted, how many keys it lists.
+fn list_asks(columns: &Columns<'_>, state: &State, places: usize) -> Result<usize, Refusal>
+    ensures { listed_is result
+        ≡ answering (list_asks (machine (table_of columns.now) state.now) places)
+        (accepted (length (live_keys (machine (table_of columns.now) state.now)))) }
 {
-    if !rises {
-        return Verdict::Refused(Refusal::BadForm);
+    if !chain_rises(columns, state.taken) {
+        return Err(Refusal::BadForm);
     }
+    let count = live_count(columns, state.taken);
     if places < count {
-        return Verdict::Refused(Refusal::NoRoom);
+        return Err(Refusal::NoRoom);
     }
-    Verdict::Accepted
+    Ok(count)
 }
 
 // Writes the live keys, in rising order, into the first of the places. Refusals 1, 3, 10; refused, no place is written.
-pub fn listing(
-    kind: &[u8],
-    key: &[u32],
-    next: &[u16],
-    back: &[u16],
-    state: State,
-    places: &mut [u32],
-) -> Listed
+#[tactic(auto, unfolding(crate::specs::Engine::list_of))]
+pub fn listing(columns: &Columns<'_>, state: &State, places: &mut [u32]) -> Result<usize, Refusal>
     ensures { left places.new (listed_is result)
-        ≡ list_of (machine (before kind key next back) state) places.old }
+        ≡ list_of (machine (table_of columns.now) state.now) places.old }
 {
-    let rises = chain_rises(kind, key, next, back, state.taken);
-    let count = live_count(kind, key, next, back, state.taken);
-    let later = list_asks(rises, count, places.len());
-    let verdict = form_verdict(kind, key, next, back, state, later);
-    match verdict {
-        Verdict::Accepted => {
-            write_live(kind, key, next, back, state.taken, places);
-            Listed::Keys(count)
-        }
-        Verdict::Refused(why) => Listed::Refused(why),
-    }
+    form_asks(columns, state)?;
+    let count = list_asks(columns, state, places.len())?;
+    write_live(columns, state.taken, places);
+    Ok(count)
 }

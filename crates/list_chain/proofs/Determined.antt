@@ -13,5 +13,5 @@ pub live_count_fixed : OneOutcome live_count.Post (λ κs answer exit. answer)
 live_count_fixed κs given answer₁ answer₂ exit₁ exit₂ = by_equation
 
 -- what the places hold once the keys are written
-pub write_live_fixed : OneOutcome write_live.Post (λ κs answer exit. exit.1.1.1.1.1.0.now)
+pub write_live_fixed : OneOutcome write_live.Post (λ κs answer exit. exit.1.1.0.now)
 write_live_fixed κs given answer₁ answer₂ exit₁ exit₂ = by_equation

@@ -17,6 +17,10 @@ use Rattle.list_rows.specs.Order.{below}
 use Rattle.list_chain.specs.Chain.{behind, is_live, rises, with_key, live_from}
 use Rattle.logic.specs.Sum.{one_if}
 
+-- one turn of a loop more is one row less that is left
+one_turn : (taken turns : ℕ) → taken - (turns + 1) ≡ taken - turns - 1
+one_turn taken turns = omega arith
+
 module _ (t : Table) (row : ℕ) where
   -- ---- whether it rises
 
@@ -34,11 +38,15 @@ module _ (t : Table) (row : ℕ) where
   rises_stop zero some goes is falls = absurd (not-suc-le-zero some)
   rises_stop (suc left) {later} some goes is falls = rw (ne_eqb row 2 goes, ← is, falls)
 
-  pub rises_on : (left : ℕ) {later : ℕ} → 0 < left → row ≢ 2 → later ≡ behind t row → below t row later ≡ true →
+  rises_more : (left : ℕ) {later : ℕ} → 0 < left → row ≢ 2 → later ≡ behind t row → below t row later ≡ true →
       rises t left row ≡ rises t (left - 1) later
   unfolding rises
-  rises_on zero some goes is up = absurd (not-suc-le-zero some)
-  rises_on (suc left) {later} some goes is up = rw (ne_eqb row 2 goes, ← is, up, sub-one)
+  rises_more zero some goes is up = absurd (not-suc-le-zero some)
+  rises_more (suc left) {later} some goes is up = rw (ne_eqb row 2 goes, ← is, up, sub-one)
+
+  pub rises_on : (taken turns : ℕ) {later : ℕ} → turns < taken → row ≢ 2 → later ≡ behind t row → below t row later ≡ true →
+      rises t (taken - turns) row ≡ rises t (taken - (turns + 1)) later
+  rises_on taken turns {later} some goes is up = rw (one_turn taken turns) (rises_more (taken - turns) (omega (arith, some)) goes is up)
 
   -- ---- its keys
 
@@ -77,17 +85,17 @@ puts_key : (counts : Bool) (key : ℕ) (later places : List ℕ) (place : ℕ) �
 puts_key true key later places place = rw add-one
 puts_key false key later places place = rw add-zero
 
-module _ (t : Table) (row left : ℕ) (some : 0 < left) (goes : row ≢ 2) {live : Bool} {one later : ℕ}
+module _ (t : Table) (row taken turns : ℕ) (some : turns < taken) (goes : row ≢ 2) {live : Bool} {one later : ℕ}
     (lives : live ≡ is_live t row) (counts : one ≡ one_if live) (is_behind : later ≡ behind t row) where
-  pub count_on : (count : ℕ) → count + length (live_from t left row) ≡ count + one + length (live_from t (left - 1) later)
+  pub count_on : (count : ℕ) → count + length (live_from t (taken - turns) row) ≡ count + one + length (live_from t (taken - (turns + 1)) later)
   count_on count =
-      rw (counts, lives, is_behind)
-      (ap (λ (keys : List ℕ). count + length keys) (live_on t row left some goes)
-      ∙ counts_key (is_live t row) (key_at t row) (live_from t (left - 1) (behind t row)) count)
+      rw (counts, lives, is_behind, one_turn taken turns)
+      (ap (λ (keys : List ℕ). count + length keys) (live_on t row (taken - turns) (omega (arith, some)) goes)
+      ∙ counts_key (is_live t row) (key_at t row) (live_from t (taken - turns - 1) (behind t row)) count)
 
   pub put_on : (places : List ℕ) (place : ℕ) {key : ℕ} {after : List ℕ} → key ≡ key_at t row → after ≡ cond live (set places place key) places →
-      sets places place (live_from t left row) ≡ sets after (place + one) (live_from t (left - 1) later)
+      sets places place (live_from t (taken - turns) row) ≡ sets after (place + one) (live_from t (taken - (turns + 1)) later)
   put_on places place is_key puts =
-      rw (puts, counts, lives, is_key, is_behind)
-      (ap (λ (keys : List ℕ). sets places place keys) (live_on t row left some goes)
-      ∙ puts_key (is_live t row) (key_at t row) (live_from t (left - 1) (behind t row)) places place)
+      rw (puts, counts, lives, is_key, is_behind, one_turn taken turns)
+      (ap (λ (keys : List ℕ). sets places place keys) (live_on t row (taken - turns) (omega (arith, some)) goes)
+      ∙ puts_key (is_live t row) (key_at t row) (live_from t (taken - turns - 1) (behind t row)) places place)

@@ -1,4 +1,4 @@
 -- Why a line does what is promised.
-pub mod Laws
 pub mod Checked
+pub mod Four
 pub mod Determined

@@ -1,12 +1,12 @@
 -- A line on the list: what it asks, what that leaves, and the answer (document 01, "The schedule program").
-use Rattle.std.specs.Prelude.{List, [], ◌∷◌, ℕ}
+use Rattle.std.specs.Prelude.{List, [], ◌∷◌, ℕ, get_or}
 use Rattle.refusal.specs.Answer.{Answer, accepted, refused, Left, left, leaving}
 use Rattle.calls.specs.Words.{Word}
 use Rattle.list_unchecked.specs.Unchecked.{Machine, unchecked_call, unchecked_move}
 use Rattle.list_form.specs.Form.{rows_in}
 use Rattle.field.specs.Field.{load_of}
 use Rattle.list.specs.Engine.{call_asks, move_asks, accepting}
-use Rattle.calls.specs.Calls.{call_named}
+use Rattle.calls.specs.Calls.{call_named, code_of}
 use Rattle.list.specs.Run.{Event, calls, moves, going}
 use Rattle.script.specs.declared.CallLine.{CallLine}
 use Rattle.script.specs.declared.Line.{Line}
@@ -27,9 +27,9 @@ plain_event m (moves party) = leaving (move_asks m.state party) m (accepting (un
 
 -- ---- one line
 
--- the bytes of the field, as they stand in the line
+-- the four bytes of the field, as they stand in the line
 abbrev pub field_in : CallLine → List ℕ
-field_in c = c.b0 ∷ c.b1 ∷ c.b2 ∷ c.b3 ∷ []
+field_in c = get_or c.field 0 0 ∷ get_or c.field 1 0 ∷ get_or c.field 2 0 ∷ get_or c.field 3 0 ∷ []
 
 -- the party that a line names; where it names none, 0
 abbrev pub party_in : Line → ℕ
@@ -40,7 +40,7 @@ party_in Bad = 0
 
 -- the load of the key comes before the call; what refuses it refuses the line
 unfoldable pub loaded : TakesEvent → Machine → CallLine → Answer ℕ → Left Machine Word
-loaded takes m c (accepted key) = takes m (calls c.party c.code key)
+loaded takes m c (accepted key) = takes m (calls c.party (code_of c.call) key)
 loaded takes m c (refused number) = left m (refused number)
 
 -- what a line leaves, and its answer; the order is the code of the byte order that the head names

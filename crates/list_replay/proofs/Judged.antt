@@ -3,11 +3,12 @@
 use mathlib.Core.Path.{◌≡◌, refl, ap, sym, ◌∙◌}
 use mathlib.Core.Bool.{cond}
 use mathlib.Core.List.{List, []}
-use Prim.Native.Nat.{ℕ, zero, suc, ◌<◌, ◌≤◌}
+use Rattle.std.specs.Prelude.{Option, None, Some}
+use Prim.Native.Nat.{ℕ, ◌<◌, ◌≤◌}
 use native.Mathlib.Omega.{arith}
 use lib.ListN.{length, length-replicate}
-use lib.Dec.{eqb, ltb}
-use borrow.Author.Tests.{lt-ltb, le-ltb, ltb-false, eq-eqb, eqb-true, ne_eqb, le-leb}
+use lib.Dec.{ltb}
+use borrow.Author.Tests.{lt-ltb, le-ltb, ltb-false, eq-eqb, ne_eqb, le-leb}
 use Rattle.refusal.specs.Answer.{passed}
 use Rattle.list.specs.Engine.{set_up_of}
 use Rattle.list.specs.Run.{run, unset, fresh}
@@ -15,48 +16,20 @@ use Rattle.list_grown.specs.History.{keys_are_32}
 use Rattle.report.specs.Lines.{bad_line}
 use Rattle.script.specs.declared.Head.{Head}
 use Rattle.script.specs.Head.{head_of}
-use Rattle.script.specs.Body.{most_lines, body_of, bad_from, first_bad}
+use Rattle.script.specs.Body.{most_lines, body_of, first_bad}
 use Rattle.script.proofs.Progress.{good_head}
 use Rattle.logic.proofs.Cases.{by_test}
-use Rattle.list_replay.specs.Output.{Runner, checked, plain, played, judged, output_by}
+use Rattle.list_replay.specs.Output.{checked, plain, played, judged, output_by, output_of}
 use Rattle.list_replay.specs.Claims.{SameOutput, end_of, ListingStands}
 use Rattle.list_replay.proofs.Sound.{Sound, sound_listing}
 use Rattle.list_replay.proofs.Same.{body_fits, SameRun, run_same, played_same}
 
--- ---- the three cases
-
-module _ (e : Runner) (text : List ℕ) where
-  pub out_large : 65536 < length text → bad_line 0 ≡ output_by e text
-  unfolding output_by
-  out_large long = rw (lt-ltb 65536 (length text) long)
-
-  out_small : length text ≤ 65536 → judged e text (head_of text) (first_bad text (head_of text)) ≡ output_by e text
-  unfolding output_by
-  out_small short = rw (le-ltb 65536 (length text) short)
-
-  bad_judged : (head : Head) (bad : ℕ) → (bad ≡ 0 → ⊥) → bad_line bad ≡ judged e text head bad
-  bad_judged head zero some = absurd (some refl)
-  bad_judged head (suc line) some = refl
-
-  module _ {head : Head} {bad : ℕ} (short : length text ≤ 65536) (heads : head ≡ head_of text) (finds : bad ≡ first_bad text head) where
-    pub out_bad : (bad ≡ 0 → ⊥) → bad_line bad ≡ output_by e text
-    out_bad some =
-        bad_judged (head_of text) bad some ∙ ap (judged e text (head_of text)) (finds ∙ ap (first_bad text) heads) ∙ out_small short
-
-    pub out_good : bad ≡ 0 → played e head.order (fresh head.nodes head.parties) 0 (body_of text head) ≡ output_by e text
-    out_good none =
-        ap (λ (h : Head). judged e text h 0) heads
-        ∙ ap (judged e text (head_of text)) (sym none ∙ finds ∙ ap (first_bad text) heads)
-        ∙ out_small short
-
 -- ---- a good text
 
 -- no line is bad: then none of the head is
-pub head_good : (text : List ℕ) (head : Head) → first_bad text head ≡ 0 → head.bad ≡ 0
+pub head_good : (text : List ℕ) (head : Head) → first_bad text head ≡ None → head.bad ≡ None
 unfolding first_bad
-head_good text head none =
-    by_test (λ b. cond b (bad_from text 0 head.next (most_lines text)) head.bad ≡ 0 → eqb head.bad 0 ≡ b → head.bad ≡ 0)
-    (eqb head.bad 0) (λ t n e. eqb-true head.bad 0 e) (λ f n e. n) none refl
+head_good text head none = grind arith
 
 -- columns and parties within their bounds can be set up
 set_up_passes : (rows parties : ℕ) → 4 ≤ rows → rows ≤ 4096 → 1 ≤ parties → parties ≤ 16 →
@@ -72,8 +45,8 @@ set_up_passes rows parties low high some few =
       le-ltb 16 parties few,
     )
 
-module _ (text : List ℕ) (short : length text ≤ 65536) (good : (head_of text).bad ≡ 0) where
-  pub rows_fit : (head_of text).nodes ≤ 4096
+module _ (text : List ℕ) (short : length text ≤ 65536) (good : (head_of text).bad ≡ None) where
+  rows_fit : (head_of text).nodes ≤ 4096
   rows_fit = (good_head text (omega arith) good).3
 
   pub sound_fresh : Sound (fresh (head_of text).nodes (head_of text).parties)
@@ -97,14 +70,14 @@ module _ (text : List ℕ) (short : length text ≤ 65536) where
   head = head_of text
 
   -- the run of a good text is the same by both engines
-  pub good_run : first_bad text head ≡ 0 → SameRun head.order (fresh head.nodes head.parties) 0 (body_of text head)
+  pub good_run : first_bad text head ≡ None → SameRun head.order (fresh head.nodes head.parties) 0 (body_of text head)
   good_run good =
       run_same head.order (fresh head.nodes head.parties) 0 (body_of text head) (sound_fresh text short (head_good text head good))
       (body_fits text head.next (most_lines text))
 
-  judged_same : (bad : ℕ) → first_bad text head ≡ bad → judged plain text head bad ≡ judged checked text head bad
-  judged_same zero good = played_same head.order (fresh head.nodes head.parties) 0 (body_of text head) (good_run good)
-  judged_same (suc line) bad = refl
+  judged_same : (bad : Option ℕ) → first_bad text head ≡ bad → judged plain text head bad ≡ judged checked text head bad
+  judged_same None good = played_same head.order (fresh head.nodes head.parties) 0 (body_of text head) (good_run good)
+  judged_same (Some line) bad = refl
 
 pub same_output : SameOutput
 unfolding output_by
@@ -117,3 +90,25 @@ same_output text =
 
 pub listing_stands : ListingStands
 listing_stands text places short good enough = sound_listing (end_of text) (good_run text short good).sound places enough
+
+-- ---- the output in the three cases, and what a good head is known for
+
+module _ (text : List ℕ) where
+  pub out_large : 65536 < length text → bad_line 0 ≡ output_of text
+  unfolding output_by
+  out_large long = rw (lt-ltb 65536 (length text) long)
+
+  out_small : length text ≤ 65536 → judged checked text (head_of text) (first_bad text (head_of text)) ≡ output_of text
+  unfolding output_by
+  out_small short = rw (le-ltb 65536 (length text) short)
+
+  pub out_bad : {line : ℕ} → length text ≤ 65536 → first_bad text (head_of text) ≡ Some line → bad_line line ≡ output_of text
+  out_bad short is = ap (judged checked text (head_of text)) (sym is) ∙ out_small short
+
+  pub out_good : length text ≤ 65536 → first_bad text (head_of text) ≡ None →
+      played plain (head_of text).order (fresh (head_of text).nodes (head_of text).parties) 0 (body_of text (head_of text)) ≡ output_of text
+  out_good short is =
+      judged_same text short None is ∙ ap (judged checked text (head_of text)) (sym is) ∙ out_small short
+
+  pub rows_few : length text ≤ 65536 → first_bad text (head_of text) ≡ None → (head_of text).nodes ≤ 4096
+  rows_few short is = rows_fit text short (head_good text (head_of text) is)

@@ -2,6 +2,7 @@
 -- Assumes nothing.
 use mathlib.Core.Path.{◌≡◌, refl}
 use mathlib.Core.List.{List, [], ◌∷◌}
+use Rattle.std.specs.Prelude.{Option, None, Some}
 use Prim.Native.Nat.{ℕ, zero, suc, ◌+◌, ◌*◌, ◌/◌, ◌≤◌}
 use native.Mathlib.Omega.{arith}
 use lib.ListN.{length, length-append}
@@ -60,9 +61,9 @@ bad_short : (line : ℕ) → length (bad_line line) ≤ 786432
 bad_short line = omega (arith, number_short (bytes "bad=") line)
 
 module _ (text : List ℕ) (short : length text ≤ 65536) where
-  judged_short : (bad : ℕ) → first_bad text (head_of text) ≡ bad → length (judged checked text (head_of text) bad) ≤ 786432
+  judged_short : (bad : Option ℕ) → first_bad text (head_of text) ≡ bad → length (judged checked text (head_of text) bad) ≤ 786432
   unfolding most_lines
-  judged_short zero good =
+  judged_short None good =
       let head = head_of text in
       let m = fresh head.nodes head.parties in
       let lines = body_of text head in
@@ -70,7 +71,7 @@ module _ (text : List ℕ) (short : length text ≤ 65536) where
       let few = body_short text head.next (length text / 6) in
       let last = closing_short (last_of event_of head.order m lines) (good_run text short good).sound in
       simp length-append (omega (arith, short, answers, few, last))
-  judged_short (suc line) bad = bad_short (suc line)
+  judged_short (Some line) bad = bad_short line
 
 pub output_fits : OutputFits
 unfolding output_by

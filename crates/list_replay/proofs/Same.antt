@@ -20,6 +20,7 @@ use Rattle.field.proofs.Numbers.{number_below_power}
 use Rattle.list.specs.Engine.{live_keys}
 use Rattle.list.specs.Run.{calls, moves, event_of}
 use Rattle.report.specs.Lines.{key_lines, tally_lines}
+use Rattle.calls.specs.Calls.{code_of}
 use Rattle.text.specs.Reading.{lost}
 use Rattle.text.proofs.Bytes.{field_is_bytes}
 use Rattle.script.specs.declared.CallLine.{CallLine}
@@ -50,7 +51,7 @@ four_bytes_lem a b c d p q r s (suc (suc (suc (suc place)))) = omega arith
 call_fits : (text : List ℕ) (at : ℕ) → Fits (Call (call_line text at))
 unfolding call_line
 call_fits text at =
-    let b = field_is_bytes text _ in four_bytes_lem _ _ _ _ b.0 b.1 b.2 b.3
+    let b = field_is_bytes text _ in four_bytes_lem _ _ _ _ (b.1 0 0 (omega (arith, b.0))) (b.1 1 0 (omega (arith, b.0))) (b.1 2 0 (omega (arith, b.0))) (b.1 3 0 (omega (arith, b.0)))
 
 line_if : (a b d : Bool) (c : CallLine) (v n w k : ℕ) → Fits (Call c) → Fits (cond a (cond b (cond d Bad (End v n)) (Step w k)) (Call c))
 line_if true true true c v n w k fits = tt
@@ -94,7 +95,7 @@ call_same : (order : ℕ) (m : Machine) (c : CallLine) (answer : Answer ℕ) →
     (loaded plain_event m c answer ≡ loaded event_of m c answer) × Sound (loaded event_of m c answer).memory
 unfolding loaded
 call_same order m c (accepted key) e s all =
-    (plain_same m s (calls c.party c.code key), sound_event m (calls c.party c.code key) s (key_small c order key all e))
+    (plain_same m s (calls c.party (code_of c.call) key), sound_event m (calls c.party (code_of c.call) key) s (key_small c order key all e))
 call_same order m c (refused number) e s all = (refl, s)
 
 line_same : (order : ℕ) (m : Machine) (line : Line) → Sound m → Fits line → SameLine order m line

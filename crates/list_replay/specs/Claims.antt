@@ -1,5 +1,5 @@
 -- What is proved of the output of schedules, beside the contract of `replay`.
-use Rattle.std.specs.Prelude.{◌≡◌, List, ◌++◌, ℕ, ◌≤◌, length, drop}
+use Rattle.std.specs.Prelude.{◌≡◌, List, ◌++◌, ℕ, ◌≤◌, length, drop, None}
 use Rattle.refusal.specs.Answer.{accepted, left}
 use Rattle.list_unchecked.specs.Unchecked.{Machine}
 use Rattle.list.specs.Engine.{live_keys, places_with, list_of}
@@ -22,7 +22,7 @@ end_of text =
 -- at the end of a good text a listing into 4,096 places is not refused, and lists the live keys
 abbrev pub ListingStands : Type 0
 ListingStands =
-    (text places : List ℕ) → length text ≤ 65536 → first_bad text (head_of text) ≡ 0 → 4096 ≤ length places →
+    (text places : List ℕ) → length text ≤ 65536 → first_bad text (head_of text) ≡ None → 4096 ≤ length places →
     let keys = live_keys (end_of text) in
     list_of (end_of text) places ≡ left (places_with keys places) (accepted (length keys))
 

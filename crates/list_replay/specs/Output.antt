@@ -1,5 +1,5 @@
 -- The whole output of a schedule's text (document 01, "The schedule program").
-use Rattle.std.specs.Prelude.{List, [], ◌∷◌, ◌++◌, cond, ℕ, zero, suc, ◌+◌, length, take, ltb}
+use Rattle.std.specs.Prelude.{List, [], ◌∷◌, ◌++◌, cond, ℕ, ◌+◌, Option, None, Some, length, take, ltb}
 use Rattle.refusal.specs.Answer.{Answer, accepted, refused, Left}
 use Rattle.columns.specs.Column.{zeros}
 use Rattle.list_party.specs.Party.{asked_at}
@@ -70,10 +70,10 @@ played e order m seen lines =
 
 -- ---- the output
 
--- 0 means a good text, which is run on a fresh list; of any other only its first bad line is printed
-abbrev pub judged : Runner → List ℕ → Head → (bad : ℕ) → List ℕ
-judged e text head zero = played e head.order (fresh head.nodes head.parties) 0 (body_of text head)
-judged e text head (suc line) = bad_line (suc line)
+-- a good text is run on a fresh list; of any other only its first bad line is printed
+abbrev pub judged : Runner → List ℕ → Head → (bad : Option ℕ) → List ℕ
+judged e text head None = played e head.order (fresh head.nodes head.parties) 0 (body_of text head)
+judged e text head (Some line) = bad_line line
 
 -- a text of over 65,536 bytes gives bad=0, whatever it holds
 unfoldable pub output_by : Runner → List ℕ → List ℕ

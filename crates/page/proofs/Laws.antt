@@ -1,7 +1,7 @@
 -- Writing on, and the digits of a number.
 -- Assumes nothing.
-use Rattle.std.proofs.Common.{sym, ◌≡◌, refl, ap, ◌∙◌, List, [], ◌∷◌, ◌++◌, ℕ, zero, suc, ◌+◌, ◌/◌, ◌%◌, ◌<◌, ◌≤◌, add-one, append_assoc, ◌^◌, cond, ltb, pow-suc, suc-add}
-use Rattle.std.proofs.Common.{arith, length, get_or, take, lt-ltb, le-ltb}
+use Rattle.std.proofs.Common.{sym, ◌≡◌, refl, ap, ◌∙◌, List, [], ◌∷◌, ◌++◌, ℕ, zero, suc, ◌+◌, ◌/◌, ◌%◌, ◌^◌, ◌<◌, ◌≤◌}
+use Rattle.std.proofs.Common.{arith, cond, ltb, lt-ltb, le-ltb, add-one, suc-add, pow-suc, length, get_or, take, append_assoc}
 use Rattle.std.proofs.Math.Seq.{take-suc}
 use Rattle.std.proofs.lemmas.List.{append-nil}
 use Rattle.page.specs.Page.{Page, put_byte, put, Wrote, digits, decimal}

@@ -3,8 +3,7 @@ use Prim.{Unit}
 use Rattle.std.specs.Prelude.{◌≡◌, List, [], ◌∷◌, ◌++◌, cond, ℕ, zero, suc, replicate}
 use Rattle.refusal.specs.Answer.{Answer, accepted, refused, Left}
 use Rattle.calls.specs.Words.{Word, nothing, yes, no}
-use Rattle.list_rows.specs.Table.{Table}
-use Rattle.list_unchecked.specs.Unchecked.{Machine, machine}
+use Rattle.list_unchecked.specs.Unchecked.{Machine}
 use Rattle.list.specs.Engine.{set_up_of, call_of, move_of, list_of}
 use Rattle.probe_layout.specs.Bytes.{low, lows}
 use Rattle.probe_layout.specs.Layout.{what_in, party_in, code_in, key_in, places_in, machine_in, fits, machine_bytes}
@@ -71,13 +70,13 @@ seen_of bytes =
     seen_by (what_in bytes) (machine_in bytes) (party_in bytes) (code_in bytes) (key_in bytes)
     (unwritten (places_in bytes))
 
--- what the code has found, with the table and the places that it leaves
-abbrev pub seen_is : Table → List ℕ → Found → Seen
-seen_is t places found = shown found.number found.answer found.listed places (machine t found.state)
+-- what the code has found, with the machine and the places that it leaves
+abbrev pub seen_is : Machine → List ℕ → Found → Seen
+seen_is m places found = shown found.number found.answer found.listed places m
 
--- it comes to this, whatever table and places are left
-abbrev pub FoundSo : Found → (Table → List ℕ → Seen) → Type 0
-FoundSo found seen = (t : Table) (places : List ℕ) → seen_is t places found ≡ seen t places
+-- it comes to this, whatever machine and places are left
+abbrev pub FoundSo : Found → (Machine → List ℕ → Seen) → Type 0
+FoundSo found seen = (m : Machine) (places : List ℕ) → seen_is m places found ≡ seen m places
 
 -- ---- bytes in, bytes out
 

@@ -1,6 +1,6 @@
 -- What an answer tells of the tests before it.
 -- Assumes nothing.
-use mathlib.Core.Path.{◌≡◌, refl, sym}
+use mathlib.Core.Path.{◌≡◌, refl, sym, ap}
 use mathlib.Core.Bool.{Bool, true, false}
 use Prim.Native.Nat.{ℕ}
 use native.Mathlib.Omega.{arith}
@@ -19,6 +19,11 @@ past_test false number later e = (refl, e)
 pub answer_past : {A : Type 0} (tests : Tests) (value answer : A) → answering tests (accepted value) ≡ accepted answer → (tests ≡ passed) × (value ≡ answer)
 answer_past (accepted done) value answer e = (refl, cc)
 answer_past (refused number) value answer e = absurd (not_both (sym e))
+
+-- and a number only where they give it
+pub refused_past : {A : Type 0} (tests : Tests) (value : A) {number : ℕ} → refused number ≡ answering tests (accepted value) → tests ≡ refused number
+refused_past (accepted done) value e = absurd (not_both (sym e))
+refused_past (refused other) value e = let same : other ≡ _ = cc in ap refused same
 
 -- memory is changed only where the tests pass
 pub change_past : {M A : Type 0} (tests : Tests) (found : M) (changed : Left M A) (value : A) →

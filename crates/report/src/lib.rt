@@ -40,7 +40,7 @@ fn put_asked(page: &mut Page, asked: Asked)
 {
     put_call(page, asked.call);
     page.put(b" ");
-    page.put_number(asked.key as u64);
+    page.put_number(u64::from(asked.key));
 }
 
 // answer=P call key, and yes or no
@@ -49,7 +49,7 @@ fn put_answer(page: &mut Page, party: u32, asked: Asked, word: &[u8])
     ensures { PutsOn page (answer_line party asked word.now) }
 {
     page.put(b"answer=");
-    page.put_number(party as u64);
+    page.put_number(u64::from(party));
     page.put(b" ");
     put_asked(page, asked);
     page.put(b" ");
@@ -65,7 +65,7 @@ fn put_refused(page: &mut Page, line: usize, why: Refusal)
     page.put(b"refused=");
     page.put_number(line as u64);
     page.put(b" ");
-    page.put_number(why.number() as u64);
+    page.put_number(u64::from(why.number()));
     page.put(b"\n");
 }
 
@@ -119,7 +119,7 @@ pub fn put_bad(page: &mut Page, line: usize)
 fn put_key(page: &mut Page, key: u32)
     ensures { PutsOn page (key_line key) }
 {
-    put_numbered(page, b"key=", key as u64);
+    put_numbered(page, b"key=", u64::from(key));
 }
 
 // One line for each key.
@@ -137,8 +137,8 @@ pub fn put_keys(page: &mut Page, keys: &[u32])
 pub fn put_tallies(page: &mut Page, tallies: Tallies, taken: u16)
     ensures { PutsOn page (tally_lines tallies taken) }
 {
-    put_numbered(page, b"moves=", tallies.moves as u64);
-    put_numbered(page, b"won=", tallies.won as u64);
-    put_numbered(page, b"lost=", tallies.lost as u64);
-    put_numbered(page, b"taken=", taken as u64);
+    put_numbered(page, b"moves=", u64::from(tallies.moves));
+    put_numbered(page, b"won=", u64::from(tallies.won));
+    put_numbered(page, b"lost=", u64::from(tallies.lost));
+    put_numbered(page, b"taken=", u64::from(taken));
 }

@@ -1,11 +1,11 @@
 -- The lines behind the head of a schedule (document 01, "The schedule program").
 use Rattle.std.specs.Prelude.{List, Bool, true, false, cond, ℕ, eqb, leb}
+use Rattle.calls.specs.declared.Call.{Call as Verb}
 use Rattle.calls.specs.declared.Call.TheVariants.{Add, Remove, Contains}
 use Rattle.calls.specs.Calls.{spaced}
 use Rattle.text.specs.Reading.{lost, word, only, numeral, number_at, field_at}
 use Rattle.logic.specs.Quoted.{bytes}
-use Rattle.text.specs.declared.Number.{Number}
-use Rattle.script.specs.declared.Verb.{Verb}
+use Rattle.text.specs.declared.Reading.{Reading}
 use Rattle.script.specs.declared.CallLine.{CallLine}
 use Rattle.script.specs.declared.Line.{Line}
 use Rattle.script.specs.declared.Line.TheVariants.{Call, Step, End, Bad}
@@ -16,16 +16,16 @@ line_end text at = word text at (bytes "\n")
 
 -- ---- call=P add HHHHHHHH, or remove, or contains
 
-abbrev pub verb : (code next : ℕ) → Verb
-verb code next = record { code = code; next = next }
+abbrev pub verb : (call : Verb) (next : ℕ) → Reading Verb
+verb call next = record { value = call; next = next }
 
--- the call's name, with a space on both sides, as its code; any other name ends at `lost`, as code 2
-unfoldable pub verb_at : List ℕ → ℕ → Verb
+-- the call whose name stands here, with a space on both sides; any other name ends at `lost`, as CONTAINS
+unfoldable pub verb_at : List ℕ → ℕ → Reading Verb
 verb_at text at =
     let add = word text at (spaced Add) in
     let remove = word text at (spaced Remove) in
     let contains = word text at (spaced Contains) in
-    cond (eqb add lost) (cond (eqb remove lost) (verb 2 contains) (verb 1 remove)) (verb 0 add)
+    cond (eqb add lost) (cond (eqb remove lost) (verb Contains contains) (verb Remove remove)) (verb Add add)
 
 -- P is 0 to 99
 unfoldable pub call_line : List ℕ → ℕ → CallLine
@@ -35,24 +35,26 @@ call_line text at =
     let f = field_at text v.next in
     record {
       party = n.value;
-      code = v.code;
-      b0 = f.b0;
-      b1 = f.b1;
-      b2 = f.b2;
-      b3 = f.b3;
+      call = v.value;
+      field = f.value;
       next = only (leb n.value 99) (line_end text f.next);
     }
 
+-- ---- a name, a number and LF
+
+abbrev pub number_line : List ℕ → ℕ → (name : List ℕ) → Reading ℕ
+number_line text at name = let n = number_at text (word text at name) in numeral n.value (line_end text n.next)
+
 -- ---- step=P
 
-unfoldable pub step_line : List ℕ → ℕ → Number
+unfoldable pub step_line : List ℕ → ℕ → Reading ℕ
 step_line text at =
     let n = number_at text (word text at (bytes "step=")) in
     numeral n.value (only (leb n.value 99) (line_end text n.next))
 
 -- ---- end= with a number
 
-unfoldable pub end_line : List ℕ → ℕ → Number
+unfoldable pub end_line : List ℕ → ℕ → Reading ℕ
 end_line text at = let n = number_at text (word text at (bytes "end=")) in numeral n.value (line_end text n.next)
 
 -- ---- the line at a place

@@ -3,28 +3,19 @@
 #![tactic(auto)]
 
 ghost use Rattle.std.specs.Prelude.{◌≡◌, ◌<◌};
-ghost use Rattle.script.specs.Lines.{verb_at, call_line, step_line, end_line, line_at, ends_body, next_of};
+ghost use Rattle.script.specs.Lines.{verb_at, call_line, number_line, step_line, end_line, line_at, ends_body, next_of};
 ghost use Rattle.script.specs.Head.{parties_line, rows_of, nodes_line, order_line, first_lost, head_of};
-ghost use Rattle.script.specs.Body.{most_lines, end_bad, last_bad, bad_from, first_bad};
+ghost use Rattle.script.specs.Body.{most_lines, last_bad, bad_from, first_bad};
 
-use text::{LOST, Number};
+use calls::Call;
+use text::{LOST, Reading};
 
-// The name of a call as its code, and the place behind it.
-#[derive(Clone, Copy)]
-struct Verb {
-    code: u32,
-    next: usize,
-}
-
-// A line `call=`: the party, the code of the call, the field's bytes as they stand, and the place of the next line.
+// A line `call=`: the party, the call, the field's bytes as they stand, and the place of the next line.
 #[derive(Clone, Copy)]
 pub struct CallLine {
     pub party: u32,
-    pub code: u32,
-    pub b0: u8,
-    pub b1: u8,
-    pub b2: u8,
-    pub b3: u8,
+    pub call: Call,
+    pub field: [u8; 4],
     pub next: usize,
 }
 
@@ -40,36 +31,40 @@ pub enum Line {
     Bad,
 }
 
-// The first three lines: what they set, the place behind them, and the number of the first that breaks the rules, or 0.
+// The first three lines: what they set, the place behind them, and the number of the first that breaks the rules.
+// `order` stays a code, the one that `list_play::play_line` takes.
 #[derive(Clone, Copy)]
 pub struct Head {
     pub parties: u32,
     pub nodes: u32,
     pub order: u32,
     pub next: usize,
-    pub bad: usize,
+    pub bad: Option<usize>,
 }
 
 // The call that is named here, with a space on both sides.
 #[tactic(auto, unfolding(crate::specs::Lines::verb_at))]
-fn verb_at(text: &[u8], at: usize) -> Verb
+fn verb_at(text: &[u8], at: usize) -> Reading<Call>
     ensures { result ≡ verb_at text.now at }
 {
     let add = text::word(text, at, b" add ");
     let remove = text::word(text, at, b" remove ");
-    if add == LOST {
-        if remove == LOST {
-            return Verb {
-                code: 2,
-                next: text::word(text, at, b" contains "),
-            };
+    if add != LOST {
+        Reading {
+            value: Call::Add,
+            next: add,
         }
-        return Verb {
-            code: 1,
+    } else if remove != LOST {
+        Reading {
+            value: Call::Remove,
             next: remove,
-        };
+        }
+    } else {
+        Reading {
+            value: Call::Contains,
+            next: text::word(text, at, b" contains "),
+        }
     }
-    Verb { code: 0, next: add }
 }
 
 // call=P add HHHHHHHH
@@ -80,40 +75,45 @@ fn call_line(text: &[u8], at: usize) -> CallLine
     let n = text::read_number(text, text::word(text, at, b"call="));
     let v = verb_at(text, n.next);
     let f = text::read_field(text, v.next);
+    let field = f.value;
     let next = text::only(n.value <= 99, text::word(text, f.next, b"\n"));
     CallLine {
         party: n.value,
-        code: v.code,
-        b0: f.b0,
-        b1: f.b1,
-        b2: f.b2,
-        b3: f.b3,
+        call: v.value,
+        field,
         next,
+    }
+}
+
+// A name, a number and LF.
+fn number_line(text: &[u8], at: usize, name: &[u8]) -> Reading<u32>
+    ensures { result ≡ number_line text.now at name.now }
+{
+    let n = text::read_number(text, text::word(text, at, name));
+    Reading {
+        next: text::word(text, n.next, b"\n"),
+        ..n
     }
 }
 
 // step=P
 #[tactic(auto, unfolding(crate::specs::Lines::step_line))]
-fn step_line(text: &[u8], at: usize) -> Number
+fn step_line(text: &[u8], at: usize) -> Reading<u32>
     ensures { result ≡ step_line text.now at }
 {
-    let n = text::read_number(text, text::word(text, at, b"step="));
-    Number {
-        value: n.value,
-        next: text::only(n.value <= 99, text::word(text, n.next, b"\n")),
+    let n = number_line(text, at, b"step=");
+    Reading {
+        next: text::only(n.value <= 99, n.next),
+        ..n
     }
 }
 
 // end= and a number
 #[tactic(auto, unfolding(crate::specs::Lines::end_line))]
-fn end_line(text: &[u8], at: usize) -> Number
+fn end_line(text: &[u8], at: usize) -> Reading<u32>
     ensures { result ≡ end_line text.now at }
 {
-    let n = text::read_number(text, text::word(text, at, b"end="));
-    Number {
-        value: n.value,
-        next: text::word(text, n.next, b"\n"),
-    }
+    number_line(text, at, b"end=")
 }
 
 // The line that stands at a place behind the head.
@@ -121,31 +121,26 @@ fn end_line(text: &[u8], at: usize) -> Number
 pub fn line_at(text: &[u8], at: usize) -> Line
     ensures { result ≡ line_at text.now at }
 {
-    let c = call_line(text, at);
-    if c.next == LOST {
-        let s = step_line(text, at);
-        if s.next == LOST {
-            let e = end_line(text, at);
-            if e.next == LOST {
-                return Line::Bad;
-            }
-            return Line::End(e.value, e.next);
-        }
-        return Line::Step(s.value, s.next);
+    let call = call_line(text, at);
+    if call.next != LOST {
+        return Line::Call(call);
     }
-    Line::Call(c)
+    let step = step_line(text, at);
+    if step.next != LOST {
+        return Line::Step(step.value, step.next);
+    }
+    let end = end_line(text, at);
+    if end.next != LOST {
+        return Line::End(end.value, end.next);
+    }
+    Line::Bad
 }
 
 // Whether no call and no step stands in the line.
 pub fn ends_body(line: Line) -> bool
     ensures { result ≡ ends_body line }
 {
-    match line {
-        Line::Call(_) => false,
-        Line::Step(_, _) => false,
-        Line::End(_, _) => true,
-        Line::Bad => true,
-    }
+    matches!(line, Line::End(..) | Line::Bad)
 }
 
 // The place behind a line; behind bytes that are no line, LOST.
@@ -153,23 +148,20 @@ pub fn next_of(line: Line) -> usize
     ensures { result ≡ next_of line }
 {
     match line {
-        Line::Call(c) => c.next,
-        Line::Step(_, next) => next,
-        Line::End(_, next) => next,
+        Line::Call(CallLine { next, .. }) | Line::Step(_, next) | Line::End(_, next) => next,
         Line::Bad => LOST,
     }
 }
 
 // parties=, 1 to 16
 #[tactic(auto, unfolding(crate::specs::Head::parties_line))]
-fn parties_line(text: &[u8]) -> Number
+fn parties_line(text: &[u8]) -> Reading<u32>
     ensures { result ≡ parties_line text.now }
 {
-    let n = text::read_number(text, text::word(text, 0, b"parties="));
-    let v = n.value;
-    Number {
-        value: v,
-        next: text::only((1 <= v) & (v <= 16), text::word(text, n.next, b"\n")),
+    let n = number_line(text, 0, b"parties=");
+    Reading {
+        next: text::only(matches!(n.value, 1..=16), n.next),
+        ..n
     }
 }
 
@@ -183,53 +175,44 @@ fn rows_of(v: u32) -> u32
 
 // nodes=, 0 or 4 to 4,096
 #[tactic(auto, unfolding(crate::specs::Head::nodes_line))]
-fn nodes_line(text: &[u8], at: usize) -> Number
+fn nodes_line(text: &[u8], at: usize) -> Reading<u32>
     ensures { result ≡ nodes_line text.now at }
 {
-    let n = text::read_number(text, text::word(text, at, b"nodes="));
-    let v = n.value;
-    let next = text::only(
-        (v == 0) | ((4 <= v) & (v <= 4096)),
-        text::word(text, n.next, b"\n"),
-    );
-    Number {
-        value: rows_of(v),
-        next,
+    let n = number_line(text, at, b"nodes=");
+    Reading {
+        value: rows_of(n.value),
+        next: text::only(matches!(n.value, 0 | 4..=4096), n.next),
     }
 }
 
 // order=, big or little
 #[tactic(auto, unfolding(crate::specs::Head::order_line))]
-fn order_line(text: &[u8], at: usize) -> Number
+fn order_line(text: &[u8], at: usize) -> Reading<u32>
     ensures { result ≡ order_line text.now at }
 {
     let big = text::word(text, at, b"order=big\n");
-    if big == LOST {
-        return Number {
+    if big != LOST {
+        Reading {
+            value: 0,
+            next: big,
+        }
+    } else {
+        Reading {
             value: 1,
             next: text::word(text, at, b"order=little\n"),
-        };
-    }
-    Number {
-        value: 0,
-        next: big,
+        }
     }
 }
 
-// The number of the first of the three lines that is lost, or 0.
+// The number of the first of the three lines that is lost.
 #[tactic(auto, unfolding(crate::specs::Head::first_lost))]
-fn first_lost(parties: usize, nodes: usize, order: usize) -> usize
+fn first_lost(parties: usize, nodes: usize, order: usize) -> Option<usize>
     ensures { result ≡ first_lost parties nodes order }
 {
-    if parties == LOST {
-        1
-    } else if nodes == LOST {
-        2
-    } else if order == LOST {
-        3
-    } else {
-        0
-    }
+    [parties, nodes, order]
+        .iter()
+        .position(|&next| next == LOST)
+        .map(|line| line + 1)
 }
 
 // The head of a text.
@@ -250,33 +233,18 @@ pub fn read_head(text: &[u8]) -> Head
     }
 }
 
-// The bad line that an `end=` behind so many lines leads to, or 0: itself if its number is wrong,
-// the next one if bytes follow.
-#[tactic(auto, unfolding(crate::specs::Body::end_bad))]
-fn end_bad(seen: usize, count: u32, next: usize, len: usize) -> usize
-    requires { seen < 9223372036854775808 }
-    ensures { result ≡ end_bad seen count next len }
-{
-    if count as usize != seen {
-        return seen + 4;
-    }
-    if next != len {
-        return seen + 5;
-    }
-    0
-}
-
-// The bad line that a line without call and step leads to, or 0.
-#[tactic(auto, unfolding(crate::specs::Body::last_bad))]
-fn last_bad(seen: usize, line: Line, len: usize) -> usize
+// The bad line that a line without call and step leads to. An `end=` is bad itself if it gives another number
+// than that of the lines before it, and leads to the next line if bytes follow it.
+#[tactic(auto, unfolding(crate::specs::Body::last_bad, crate::specs::Body::end_bad))]
+fn last_bad(seen: usize, line: Line, len: usize) -> Option<usize>
     requires { seen < 9223372036854775808 }
     ensures { result ≡ last_bad seen line len }
 {
     match line {
-        Line::End(count, next) => end_bad(seen, count, next, len),
-        Line::Call(_) => seen + 4,
-        Line::Step(_, _) => seen + 4,
-        Line::Bad => seen + 4,
+        Line::End(count, next) if count as usize == seen => {
+            if next == len { None } else { Some(seen + 5) }
+        }
+        _ => Some(seen + 4),
     }
 }
 
@@ -288,32 +256,28 @@ pub fn most_lines(text: &[u8]) -> usize
     text.len() / 6
 }
 
-// The number of the first bad line of a body that starts at a place, or 0.
-fn body_bad(text: &[u8], from: usize) -> usize
-    ensures { result ≡ bad_from text.now 0 from (most_lines text.now) }
+// The number of the first bad line of a body that starts at a place and has at most so many lines.
+#[tactic(auto, unfolding(crate::specs::Body::bad_from), using(text::proofs::Laws::one_left))]
+fn body_bad(text: &[u8], from: usize, most: usize) -> Option<usize>
+    requires { most < 9223372036854775808 }
+    ensures { result ≡ bad_from text.now 0 from most }
 {
     let mut at = from;
-    let mut seen = 0;
-    let mut left = most_lines(text);
-    while 0 < left {
+    for seen in 0..most {
         let line = line_at(text, at);
         if ends_body(line) {
             return last_bad(seen, line, text.len());
         }
         at = next_of(line);
-        seen += 1;
-        left -= 1;
     }
-    seen + 4
+    Some(most + 4)
 }
 
-// The number of the first bad line of a text with this head, or 0.
-#[tactic(auto, unfolding(crate::specs::Body::first_bad))]
-pub fn first_bad(text: &[u8], head: Head) -> usize
+// The number of the first bad line of a text with this head.
+#[tactic(auto, unfolding(crate::specs::Body::first_bad, crate::specs::Body::most_lines))]
+pub fn first_bad(text: &[u8], head: Head) -> Option<usize>
     ensures { result ≡ first_bad text.now head }
 {
-    if head.bad == 0 {
-        return body_bad(text, head.next);
-    }
     head.bad
+        .or_else(|| body_bad(text, head.next, most_lines(text)))
 }

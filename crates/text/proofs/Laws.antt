@@ -1,18 +1,17 @@
--- One byte of a word: what the loop over its bytes needs.
+-- What the loops over a word and over the digits of a number need.
 -- Assumes nothing.
-use Rattle.std.proofs.Common.{◌≡◌, List, ℕ, ◌+◌, ◌<◌, ◌≤◌, add-one, length, get_or, drop, drop_of_length-le, drop-cons, eq-eqb, ne_eqb}
-use Rattle.text.specs.Reading.{word, place_after, byte_at, lost}
+use Rattle.std.proofs.Common.{◌≡◌, arith, ◌-◌, List, ℕ, zero, suc, ◌+◌, ◌<◌, drop_of_length-le, drop-cons}
+use Rattle.text.specs.declared.Reading.{Reading}
+use Rattle.text.specs.Reading.{next_digit}
 
-module _ (text : List ℕ) (at : ℕ) (w : List ℕ) (i : ℕ) where
-  pub word_end : length w ≤ i → word text at (drop i w) ≡ at
-  unfolding word
-  word_end h = rw drop_of_length-le
+-- the bytes of a word from an index on: one and the rest, or none
+pub ruleset word_steps = (drop-cons, drop_of_length-le)
 
-  pub word_off : i < length w → (byte_at text at ≡ get_or w i 0 → ⊥) → word text at (drop i w) ≡ lost
-  unfolding word
-  word_off h e = rw (drop-cons w i 0, ne_eqb (byte_at text at) (get_or w i 0) e)
+-- so many digits more
+abbrev pub more_digits : List ℕ → Reading ℕ → ℕ → Reading ℕ
+more_digits text n zero = n
+more_digits text n (suc k) = more_digits text (next_digit text n) k
 
-  pub word_on : i < length w → byte_at text at ≡ get_or w i 0 →
-      word text at (drop i w) ≡ word text (place_after text at) (drop (i + 1) w)
-  unfolding word
-  word_on h e = rw (add-one i, drop-cons w i 0, eq-eqb (byte_at text at) (get_or w i 0) e)
+-- what is left is one and the others
+pub one_left : (all done : ℕ) → done < all → all - done ≡ suc (all - (done + 1))
+one_left all done h = omega (arith, h)

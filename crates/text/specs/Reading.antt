@@ -2,9 +2,7 @@
 -- a place past the end of every text, where every later reading fails too:
 -- so a line that is broken anywhere ends at `lost`.
 use Rattle.std.specs.Prelude.{List, [], ◌∷◌, Bool, cond, ℕ, ◌+◌, ◌-◌, ◌*◌, length, get_or, eqb, ltb}
-use Rattle.text.specs.declared.Number.{Number}
-use Rattle.text.specs.declared.Pair.{Pair}
-use Rattle.text.specs.declared.Field.{Field}
+use Rattle.text.specs.declared.Reading.{Reading}
 
 abbrev pub lost : ℕ
 lost = 18446744073709551615
@@ -33,17 +31,17 @@ unfoldable pub digit_of : ℕ → ℕ
 digit_of byte = cond (ltb byte 48) 10 (cond (ltb byte 58) (byte - 48) 10)
 
 -- a number that was read, and the place behind it
-abbrev pub numeral : (value next : ℕ) → Number
+abbrev pub numeral : (value next : ℕ) → Reading ℕ
 numeral value next = record { value = value; next = next }
 
 -- a number starts with a digit
-abbrev pub first_digit : List ℕ → ℕ → Number
+abbrev pub first_digit : List ℕ → ℕ → Reading ℕ
 first_digit text at =
     let d = digit_of (byte_at text at) in
     cond (ltb d 10) (numeral d (place_after text at)) (numeral 0 lost)
 
 -- one digit more, where one stands: but none behind a 0 in front, and none behind five digits
-unfoldable pub next_digit : List ℕ → Number → Number
+unfoldable pub next_digit : List ℕ → Reading ℕ → Reading ℕ
 next_digit text n =
     let d = digit_of (byte_at text n.next) in
     cond (eqb n.value 0) n
@@ -52,7 +50,7 @@ next_digit text n =
 
 -- Up to five digits are read. No number of a good line in a text of at most 65,536 bytes has more,
 -- and a sixth digit stands where the line has to end.
-abbrev pub number_at : List ℕ → ℕ → Number
+abbrev pub number_at : List ℕ → ℕ → Reading ℕ
 number_at text at = next_digit text (next_digit text (next_digit text (next_digit text (first_digit text at))))
 
 -- ---- fields: eight hex digits, either case
@@ -67,11 +65,11 @@ hex_of byte =
     (cond (ltb byte 97) 16
     (cond (ltb byte 103) (byte - 87) 16)))))
 
-abbrev pub no_pair : Pair
+abbrev pub no_pair : Reading ℕ
 no_pair = record { value = 0; next = lost }
 
 -- two hex digits are a byte
-unfoldable pub pair_at : List ℕ → ℕ → Pair
+unfoldable pub pair_at : List ℕ → ℕ → Reading ℕ
 pair_at text at =
     let second = place_after text at in
     let high = hex_of (byte_at text at) in
@@ -80,10 +78,10 @@ pair_at text at =
     (cond (ltb low 16) (record { value = high * 16 + low; next = place_after text second }) no_pair) no_pair
 
 -- four of them are a field
-unfoldable pub field_at : List ℕ → ℕ → Field
+unfoldable pub field_at : List ℕ → ℕ → Reading (List ℕ)
 field_at text at =
     let p = pair_at text at in
     let q = pair_at text p.next in
     let r = pair_at text q.next in
     let s = pair_at text r.next in
-    record { b0 = p.value; b1 = q.value; b2 = r.value; b3 = s.value; next = s.next }
+    record { value = p.value ∷ q.value ∷ r.value ∷ s.value ∷ []; next = s.next }

@@ -2,7 +2,7 @@
 // A reading that fails goes to LOST, where every later one fails too.
 #![tactic(auto)]
 
-ghost use Rattle.std.specs.Prelude.{◌≡◌};
+ghost use Rattle.std.specs.Prelude.{◌≡◌, ◌<◌, SomeIff};
 ghost use Rattle.text.specs.Reading.{
   byte_at,
   place_after,
@@ -17,30 +17,14 @@ ghost use Rattle.text.specs.Reading.{
   field_at,
 };
 
-// A place past the end of every text.
+// A place past the end of every text. It stays where an Option could stand: `word`, `read_number`, `read_field` and,
+// above them, `line_at` and `read_head` promise the values of a lost reading too.
 pub const LOST: usize = 18446744073709551615;
 
-// A number, and the place behind it.
+// What was read at a place, and the place behind it.
 #[derive(Clone, Copy)]
-pub struct Number {
-    pub value: u32,
-    pub next: usize,
-}
-
-// The byte that two hex digits write, and the place behind them.
-#[derive(Clone, Copy)]
-struct Pair {
-    value: u8,
-    next: usize,
-}
-
-// The four bytes of a field as they stand, and the place behind them.
-#[derive(Clone, Copy)]
-pub struct Field {
-    pub b0: u8,
-    pub b1: u8,
-    pub b2: u8,
-    pub b3: u8,
+pub struct Reading<T> {
+    pub value: T,
     pub next: usize,
 }
 
@@ -48,7 +32,7 @@ pub struct Field {
 fn byte_at(text: &[u8], at: usize) -> u8
     ensures { result ≡ byte_at text.now at }
 {
-    if at < text.len() { text[at] } else { 0 }
+    text.get(at).copied().unwrap_or(0)
 }
 
 // The place behind a byte.
@@ -67,148 +51,112 @@ pub fn only(holds: bool, at: usize) -> usize
 }
 
 // The place behind a word that stands here, else LOST.
+#[tactic(auto, using(crate::proofs::Laws::word_steps), unfolding(crate::specs::Reading::word))]
 pub fn word(text: &[u8], at: usize, wanted: &[u8]) -> usize
     ensures { result ≡ Reading·word text.now at wanted.now }
 {
-    let mut i = 0;
     let mut here = at;
-    while i < wanted.len() {
-        if byte_at(text, here) != wanted[i] {
+    for &byte in wanted {
+        if byte_at(text, here) != byte {
             return LOST;
         }
         here = place_after(text, here);
-        i += 1;
     }
     here
 }
 
-// What a decimal digit stands for; 10 for any other byte.
+// The decimal digit that a byte writes.
 #[tactic(auto, unfolding(crate::specs::Reading::digit_of))]
-fn digit(byte: u8) -> u8
-    ensures { result ≡ digit_of byte }
+fn digit(byte: u8) -> Option<u32>
+    ensures { SomeIff result (digit_of byte < 10) (digit_of byte) }
 {
-    if byte < 48 {
-        10
-    } else if byte < 58 {
-        byte - 48
-    } else {
-        10
-    }
+    char::from(byte).to_digit(10)
 }
 
 // The number that one digit makes; without a digit, 0 at LOST.
-fn first_digit(text: &[u8], at: usize) -> Number
+fn first_digit(text: &[u8], at: usize) -> Reading<u32>
     ensures { result ≡ first_digit text.now at }
 {
-    let d = digit(byte_at(text, at));
-    if d < 10 {
-        Number {
-            value: d as u32,
+    match digit(byte_at(text, at)) {
+        Some(value) => Reading {
+            value,
             next: place_after(text, at),
-        }
-    } else {
-        Number {
+        },
+        None => Reading {
             value: 0,
             next: LOST,
-        }
+        },
     }
 }
 
 // One digit more where one stands. No digit goes behind a 0 in front, and none behind five:
 // so no number has a leading zero, and none can wrap.
 #[tactic(auto, unfolding(crate::specs::Reading::next_digit))]
-fn next_digit(text: &[u8], n: Number) -> Number
+fn next_digit(text: &[u8], n: Reading<u32>) -> Reading<u32>
     ensures { result ≡ next_digit text.now n }
 {
-    let value = n.value;
-    let at = n.next;
-    if value == 0 {
+    if n.value == 0 {
         return n;
     }
-    if value < 10000 {
-        let d = digit(byte_at(text, at));
-        if d < 10 {
-            return Number {
-                value: value * 10 + d as u32,
-                next: place_after(text, at),
-            };
-        }
+    match digit(byte_at(text, n.next)) {
+        Some(d) if n.value < 10000 => Reading {
+            value: n.value * 10 + d,
+            next: place_after(text, n.next),
+        },
+        _ => n,
     }
-    n
 }
 
 // The decimal number that stands here. Of a longer one only five digits are read,
 // and what follows is then no end of a line.
-pub fn read_number(text: &[u8], at: usize) -> Number
+#[tactic(auto, using(crate::proofs::Laws::one_left))]
+pub fn read_number(text: &[u8], at: usize) -> Reading<u32>
     ensures { result ≡ number_at text.now at }
 {
-    next_digit(
-        text,
-        next_digit(
-            text,
-            next_digit(text, next_digit(text, first_digit(text, at))),
-        ),
-    )
+    let mut n = first_digit(text, at);
+    for _ in 0..4usize {
+        n = next_digit(text, n);
+    }
+    n
 }
 
-// What a hex digit of either case stands for; 16 for any other byte.
+// The hex digit of either case that a byte writes.
 #[tactic(auto, unfolding(crate::specs::Reading::hex_of))]
-fn hex(byte: u8) -> u8
-    ensures { result ≡ hex_of byte }
+fn hex(byte: u8) -> Option<u32>
+    ensures { SomeIff result (hex_of byte < 16) (hex_of byte) }
 {
-    if byte < 48 {
-        16
-    } else if byte < 58 {
-        byte - 48
-    } else if byte < 65 {
-        16
-    } else if byte < 71 {
-        byte - 55
-    } else if byte < 97 {
-        16
-    } else if byte < 103 {
-        byte - 87
-    } else {
-        16
-    }
+    char::from(byte).to_digit(16)
 }
 
 // The byte of two hex digits.
 #[tactic(auto, unfolding(crate::specs::Reading::pair_at))]
-fn read_pair(text: &[u8], at: usize) -> Pair
+fn read_pair(text: &[u8], at: usize) -> Reading<u8>
     ensures { result ≡ pair_at text.now at }
 {
-    let high = hex(byte_at(text, at));
     let second = place_after(text, at);
-    let low = hex(byte_at(text, second));
-    if high < 16 {
-        if low < 16 {
-            return Pair {
-                value: high * 16 + low,
-                next: place_after(text, second),
-            };
-        }
-    }
-    Pair {
-        value: 0,
-        next: LOST,
+    match (hex(byte_at(text, at)), hex(byte_at(text, second))) {
+        (Some(high), Some(low)) => Reading {
+            value: (high * 16 + low) as u8,
+            next: place_after(text, second),
+        },
+        _ => Reading {
+            value: 0,
+            next: LOST,
+        },
     }
 }
 
 // The four bytes of eight hex digits; LOST behind any other text.
 #[tactic(auto, unfolding(crate::specs::Reading::field_at))]
-pub fn read_field(text: &[u8], at: usize) -> Field
+pub fn read_field(text: &[u8], at: usize) -> Reading<[u8; 4]>
     ensures { result ≡ field_at text.now at }
 {
     let p = read_pair(text, at);
     let q = read_pair(text, p.next);
     let r = read_pair(text, q.next);
     let s = read_pair(text, r.next);
-    Field {
-        b0: p.value,
-        b1: q.value,
-        b2: r.value,
-        b3: s.value,
+    Reading {
+        value: [p.value, q.value, r.value, s.value],
         next: s.next,
     }
 }

@@ -1,20 +1,13 @@
--- The loop of `run_body`: what the lines so far have put, and then the rest of them, is what the whole text puts.
-use mathlib.Core.Path.{◌≡◌}
-use Rattle.page.specs.Page.{Page, page, Wrote}
+-- The loop of `run_body`: the lines so far are on the page, and with the rest of them it is what the whole text puts there.
+use Rattle.std.proofs.Common.{◌≡◌, ◌-◌}
+use Rattle.page.specs.Page.{page_of, put}
+use Rattle.list_unchecked.specs.Unchecked.{machine_of}
 use Rattle.list_replay.proofs.Laws.{played_from}
-use Prim.Native.Nat.{◌+◌, ◌/◌}
-use lib.ListN.{length}
-use Rattle.list_rows.specs.Table.{tab}
-use Rattle.list_unchecked.specs.Unchecked.{machine}
 use Rattle.list_replay.proofs.run_body.Given as goal
 
-abbrev pub invariant-loop-left : goal.invariant-loop-left
-invariant-loop-left l = record {
-  lines : l.seen + l.left ≡ length l.fn.text / 6;
-  rest : (x : Page) → Wrote (page l.out l.to) (played_from l.fn.text l.fn.head.order (machine (tab l.kind l.key l.next l.back) l.state) l.seen l.at l.left) x →
-      Wrote (page l.fn.out 0)
-      (played_from l.fn.text l.fn.head.order (machine (tab l.fn.kind l.fn.key l.fn.next l.fn.back) l.fn.start) 0 l.fn.head.next l.initial.left) x;
+abbrev pub invariant-loop-seen : goal.invariant-loop-seen
+invariant-loop-seen l = record {
+  goes_on : put (page_of l.page) (played_from l.text l.head.order (machine_of l.engine) l.seen l.at (l.seen-end - l.seen))
+      ≡ put (page_of l.fn.page) (played_from l.text l.head.order (machine_of l.fn.engine) 0 l.head.next l.seen-end);
+  lent : l.page.out.ghost_name ≡ l.fn.page.out.ghost_name;
 }
-
-abbrev pub decreases-loop-left : goal.decreases-loop-left
-decreases-loop-left l = l.left

@@ -1,11 +1,13 @@
--- Columns of zeros, lent as far as the head says.
-use mathlib.Core.Path.{ap}
-use Rattle.page.proofs.Laws.{told}
-use Prim.Native.Nat.{ℕ}
-use mathlib.Core.List.{List}
+-- Columns of zeros, lent as far as the head says, and set up.
+use Rattle.std.proofs.Common.{ap, ◌∙◌, List, ℕ, take}
+use Rattle.columns.specs.Column.{zeros}
+use Rattle.list_party.specs.declared.State.{State}
+use Prim.{Unit}
+use Rattle.refusal.specs.Answer.{Left}
+use Rattle.page.specs.Page.{page_of, put}
 use Rattle.list_rows.specs.Table.{tab}
 use Rattle.list_party.specs.State.{resting_state}
-use Rattle.list_unchecked.specs.Unchecked.{machine}
+use Rattle.list_unchecked.specs.Unchecked.{Machine, machine}
 use Rattle.list.specs.Engine.{set_up_of}
 use Rattle.script.specs.Body.{body_of}
 use Rattle.list_replay.specs.Output.{plain, played}
@@ -14,7 +16,11 @@ use Rattle.list_replay.proofs.run_new.Goals as goal
 
 pub returns : goal.returns
 returns c =
-    told c.run_in.ensures
-    (ap (λ (l : List ℕ). played plain c.args.head.order (set_up_of (machine (tab l l l l) (resting_state 0 0)) c.args.head.parties).memory 0
-    (body_of c.args.text.now c.args.head))
-    (part_zeros 4096 c.args.head.nodes c.requires))
+    let head = c.args.head in
+    let prints : Machine → List ℕ = λ m. played plain head.order m 0 (body_of c.args.text.now head) in
+    let set_up_on : List ℕ → State → Machine = λ l st. (set_up_of (machine (tab l l l l) st) head.parties).memory in
+    let fresh_list =
+    ap (λ (l : Left Machine (Unit {0})). l.memory) c.set_up.ensures.leaves
+    ∙ ap (set_up_on (take head.nodes (zeros 4096))) c.resting.ensures
+    ∙ ap (λ (l : List ℕ). set_up_on l (resting_state 0 0)) (part_zeros 4096 head.nodes c.requires) in
+    (c.run_body.ensures.0 ∙ ap (λ (m : Machine). put (page_of c.args.page.now) (prints m)) fresh_list, c.run_body.ensures.1)

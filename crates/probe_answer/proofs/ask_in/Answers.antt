@@ -1,12 +1,16 @@
 -- The table and the state are read, the question is asked, and all that is seen is written.
-use mathlib.Core.Path.{ap}
-use Rattle.page.proofs.Laws.{told}
-use Rattle.probe_answer.specs.Probe.{seen_bytes}
+use Rattle.std.proofs.Common.{ap, ◌∙◌}
+use Rattle.list_rows.specs.Table.{Table}
+use Rattle.list_unchecked.specs.Unchecked.{machine}
+use Rattle.page.specs.Page.{page_of, put}
+use Rattle.probe_answer.specs.Probe.{Seen, seen_bytes, seen_is}
 use Rattle.probe_answer.proofs.Laws.{seen_told}
 use Rattle.probe_answer.proofs.ask_in.Goals as goal
 
 pub returns : goal.returns
 returns c =
-    told c.put_seen.ensures
-    (ap seen_bytes (seen_told c.args.bytes.now _ c.requires.0 c.read_table.ensures c.question_in-asked.ensures c.state_in.ensures
-    c.requires.1 c.ask-found.ensures))
+    let seen = seen_told c.args.bytes.now _ c.requires.0 c.read_table.ensures.written c.question_in.ensures c.state_in-engine.ensures
+    c.requires.1 c.ask-found.ensures.answers in
+    let lent : Table → Seen = λ t. seen_is (machine t c.ask-found.new.engine.state) c.ask-found.new.places c.ask-found.result in
+    let shown = ap lent c.view.ensures ∙ seen in
+    (c.put_seen.ensures.0 ∙ ap (λ (s : Seen). put (page_of c.args.page.now) (seen_bytes s)) shown, c.put_seen.ensures.1)
