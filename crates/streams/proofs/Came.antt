@@ -1,6 +1,7 @@
 -- What came of a stream whose bytes are known.
 -- Assumes nothing.
-use Rattle.std.proofs.Common.{◌≡◌, ap, sym, ◌∙◌, ◌+◌, ◌<◌, ◌++◌, arith, length, length-append, take, min, take_all, append-nil, subst, Option, None, Some, Result, Ok, IfOk, List, ℕ}
+use Rattle.std.proofs.Common.{◌≡◌, ap, sym, ◌∙◌, ◌+◌, ◌<◌, ◌++◌, arith, length, length-append, take}
+use Rattle.std.proofs.Common.{min, take_all, append-nil, subst, Option, None, Some, Result, Ok, IfOk, List, ℕ}
 use Rattle.std.proofs.lemmas.List.{length-take-le}
 use Rattle.std.proofs.Math.Seq.{take-append_seam}
 use mathlib.Core.Logic.{⊎_elim}
