@@ -6,6 +6,7 @@ ghost use Rattle.probe_layout.specs.Records.{record_fits};
 ghost use Rattle.probe_layout.specs.Layout.{table_in, rooms_fit, table_into, tallies_in, state_in, fits, end_of};
 
 use crate::bytes::{InBytes, read_row};
+use crate::question_in;
 use crate::records::record_fits;
 use calls::Tallies;
 use list_party::{Party, State};
@@ -42,10 +43,11 @@ pub fn state_in(bytes: &[u8]) -> State
 fn rooms_fit(bytes: &[u8], columns: &ColumnsMut<'_>) -> bool
     ensures { result ≡ rooms_fit bytes.now (table_held columns.now) }
 {
-    (columns.kind.len() == usize::from(u16::read(bytes, 15)))
-        & (columns.key.len() == usize::from(u16::read(bytes, 17)))
-        & (columns.next.len() == usize::from(u16::read(bytes, 19)))
-        & (columns.back.len() == usize::from(u16::read(bytes, 21)))
+    let asked = question_in(bytes);
+    (columns.kind.len() == usize::from(asked.kinds))
+        & (columns.key.len() == usize::from(asked.keys))
+        & (columns.next.len() == usize::from(asked.nexts))
+        & (columns.back.len() == usize::from(asked.backs))
 }
 
 // Reads the table into columns of its lengths.
@@ -54,9 +56,10 @@ fn read_columns(bytes: &[u8], columns: &mut ColumnsMut<'_>)
     ensures written { table_held columns.new ≡ table_in bytes.now }
     ensures lent { SameColumns columns.old columns.new }
 {
-    let keys_from = 363 + usize::from(u16::read(bytes, 15));
-    let nexts_from = keys_from + 4 * usize::from(u16::read(bytes, 17));
-    let backs_from = nexts_from + 2 * usize::from(u16::read(bytes, 19));
+    let asked = question_in(bytes);
+    let keys_from = 363 + usize::from(asked.kinds);
+    let nexts_from = keys_from + 4 * usize::from(asked.keys);
+    let backs_from = nexts_from + 2 * usize::from(asked.nexts);
     read_row(bytes, 363, columns.kind);
     read_row(bytes, keys_from, columns.key);
     read_row(bytes, nexts_from, columns.next);
@@ -78,11 +81,11 @@ pub fn read_table(bytes: &[u8], columns: &mut ColumnsMut<'_>)
 fn end_of(bytes: &[u8]) -> usize
     ensures { result ≡ end_of bytes.now }
 {
-    let kinds = usize::from(u16::read(bytes, 15));
-    let keys = usize::from(u16::read(bytes, 17));
-    let nexts = usize::from(u16::read(bytes, 19));
-    let backs = usize::from(u16::read(bytes, 21));
-    363 + kinds + 4 * keys + 2 * nexts + 2 * backs
+    let asked = question_in(bytes);
+    363 + usize::from(asked.kinds)
+        + 4 * usize::from(asked.keys)
+        + 2 * usize::from(asked.nexts)
+        + 2 * usize::from(asked.backs)
 }
 
 // Whether all sixteen party records fit.
@@ -97,17 +100,14 @@ fn records_fit(bytes: &[u8]) -> bool
 pub fn fits(bytes: &[u8]) -> bool
     ensures { result ≡ fits bytes.now }
 {
-    let places = u16::read(bytes, 13) <= 4200;
-    let kinds = u16::read(bytes, 15) <= 4200;
-    let keys = u16::read(bytes, 17) <= 4200;
-    let nexts = u16::read(bytes, 19) <= 4200;
-    let backs = u16::read(bytes, 21) <= 4200;
+    let asked = question_in(bytes);
+    let table = (asked.places <= 4200)
+        & (asked.kinds <= 4200)
+        & (asked.keys <= 4200)
+        & (asked.nexts <= 4200)
+        & (asked.backs <= 4200);
     let long = bytes.len() == end_of(bytes);
     let count = u32::read(bytes, 23) < 256;
     let taken = u32::read(bytes, 27) < 65536;
-    (u8::read(bytes, 0) <= 3)
-        & (places & kinds & keys & nexts & backs)
-        & long
-        & (count & taken)
-        & records_fit(bytes)
+    (asked.what <= 3) & table & long & (count & taken) & records_fit(bytes)
 }

@@ -1,4 +1,4 @@
-// What the programs read into and print from: rooms of zeros, a stream read until its room is full, the front of a room.
+// What the programs read into: rooms of zeros, a stream read until its room is full, the front of a room.
 #![tactic(auto)]
 
 ghost use Rattle.std.specs.Prelude.{◌≡◌, ◌<◌, length, take, IfOk};
@@ -34,6 +34,7 @@ pub fn read_full<R: Read>(input: &mut R, room: &mut [u8]) -> io::Result<usize>
     ensures bytes { IfOk result (λ n. Consumes (R.remaining input.old) (R.remaining input.new) (take n room.new)) }
     ensures whole { IfOk result (λ n. n < length room.new → IsAtEnd (R.remaining input.new)) }
 {
+    // By hand: `read_exact` takes a short input for an error, and what copies a stream tells nothing of the room.
     let mut done = 0;
     while done < room.len() {
         let n = input.read(&mut room[done..])?;

@@ -1,24 +1,28 @@
 -- The four columns, one behind another.
-use mathlib.Core.Path.{◌∙◌}
+use mathlib.Core.Path.{ap, ◌∙◌}
+use Rattle.probe_layout.specs.declared.Question.{Question}
 use Rattle.probe_layout.proofs.Laws.{table_told}
 use Rattle.probe_layout.proofs.Fitting.{rooms_of}
 use native.Mathlib.Omega.{arith}
 use Rattle.probe_layout.proofs.read.read_columns.Goals as goal
 
 pub read_row-requires : goal.read_row-requires
-read_row-requires c = omega (arith, c.read.ensures, (rooms_of _ _ c.requires).kinds)
+read_row-requires c = omega (arith, (rooms_of _ _ c.requires).kinds, c.type_inv.bytes 15, c.type_inv.bytes 16)
 
 pub read_row-requires-2 : goal.read_row-requires-2
-read_row-requires-2 c = omega (arith, c.read-2.ensures, (rooms_of _ _ c.requires).keys)
+read_row-requires-2 c = omega (arith, (rooms_of _ _ c.requires).keys, c.type_inv.bytes 17, c.type_inv.bytes 18)
 
 pub read_row-requires-3 : goal.read_row-requires-3
-read_row-requires-3 c = omega (arith, c.read-3.ensures, (rooms_of _ _ c.requires).nexts)
+read_row-requires-3 c = omega (arith, (rooms_of _ _ c.requires).nexts, c.type_inv.bytes 19, c.type_inv.bytes 20)
 
 pub read_row-requires-4 : goal.read_row-requires-4
 read_row-requires-4 c = omega (arith, (rooms_of _ _ c.requires).backs, c.type_inv.bytes 21, c.type_inv.bytes 22)
 
 pub returns-clause-written : goal.returns-clause-written
 returns-clause-written c =
-    table_told c.args.bytes.now (rooms_of _ _ c.requires) (c.from-keys_from.ensures ∙ c.read.ensures)
-    (c.from.ensures ∙ c.read-2.ensures) (c.from-2.ensures ∙ c.read-3.ensures)
+    let asked = c.question_in-asked.ensures in
+    table_told c.args.bytes.now (rooms_of _ _ c.requires)
+    (c.from-keys_from.ensures ∙ ap (λ (q : Question). q.kinds) asked)
+    (c.from.ensures ∙ ap (λ (q : Question). q.keys) asked)
+    (c.from-2.ensures ∙ ap (λ (q : Question). q.nexts) asked)
     c.read_row.ensures c.read_row-2.ensures c.read_row-3.ensures c.read_row-4.ensures
