@@ -15,7 +15,21 @@ use Rattle.list_rows.specs.Table.{Table}
 use Rattle.list_unchecked.specs.Unchecked.{Machine, unchecked_call}
 use Rattle.logic.proofs.Tests.{and_parts}
 use Rattle.list_form.specs.Form.{rows_in, good_form}
-use Rattle.list.specs.Engine.{bad_table, form_tests, bad_parties, set_up_tests, call_asks, call_tests, call_of, chain_rises, live_keys, list_asks, list_tests, places_with, list_of}
+use Rattle.list.specs.Engine.{
+  bad_table,
+  form_tests,
+  bad_parties,
+  set_up_tests,
+  call_asks,
+  call_tests,
+  call_of,
+  chain_rises,
+  live_keys,
+  list_asks,
+  list_tests,
+  places_with,
+  list_of,
+}
 use Rattle.calls.specs.Calls.{call_named}
 
 -- where the tests of a machine pass, the table does, the form does, and what is asked beside them

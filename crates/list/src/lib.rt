@@ -130,7 +130,8 @@ fn form_asks(columns: &Columns<'_>, state: &State) -> Result<(), Refusal>
 // Starts a call of a party. Refusals 1, 3, 4, 5, 6, 7; refused, all is as it came.
 #[tactic(auto, unfolding(crate::specs::Engine::call_of))]
 pub fn call(engine: &mut Engine<'_>, number: u32, code: u32, wanted: u32) -> Result<(), Refusal>
-    ensures leaves { left (machine_of engine.new) (verdict_is result) ≡ call_of (machine_of engine.old) number code wanted }
+    ensures leaves { left (machine_of engine.new) (verdict_is result)
+        ≡ call_of (machine_of engine.old) number code wanted }
     ensures lent { SameColumns engine.old.columns engine.new.columns }
 {
     form_asks(&engine.columns.view(), &engine.state)?;

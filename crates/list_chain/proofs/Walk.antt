@@ -77,11 +77,13 @@ module _ (t : Table) (row taken turns : ℕ) (some : turns < taken) (goes : row 
   unfolding rest
   keys_on = rw (is_behind, one_turn taken turns) (live_on t row (taken - turns) (omega (arith, some)) goes)
 
-  pub count_live : (count : ℕ) → is_live t row ≡ true → count + length (live_from t (taken - turns) row) ≡ count + 1 + length (live_from t (taken - (turns + 1)) later)
+  pub count_live : (count : ℕ) → is_live t row ≡ true →
+      count + length (live_from t (taken - turns) row) ≡ count + 1 + length (live_from t (taken - (turns + 1)) later)
   unfolding rest
   count_live count live = let keys = rw live at keys_on in rw keys (omega arith)
 
-  pub count_dead : (count : ℕ) → is_live t row ≡ false → count + length (live_from t (taken - turns) row) ≡ count + length (live_from t (taken - (turns + 1)) later)
+  pub count_dead : (count : ℕ) → is_live t row ≡ false →
+      count + length (live_from t (taken - turns) row) ≡ count + length (live_from t (taken - (turns + 1)) later)
   unfolding rest
   count_dead count dead = let keys = rw dead at keys_on in rw keys
 

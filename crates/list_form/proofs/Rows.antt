@@ -1,6 +1,6 @@
 -- A column read entry by entry is a column tested row by row.
 -- Assumes nothing.
-use mathlib.Core.Path.{◌≡◌, refl, ap, ◌∙◌}
+use mathlib.Core.Path.{◌≡◌, ap, ◌∙◌}
 use mathlib.Core.List.{List}
 use Prim.Native.Nat.{ℕ}
 use lib.ListN.{length}
@@ -32,6 +32,8 @@ keys_passed key taken = every_listed (key_fits taken) key 0
 pub links_passed : (links : List ℕ) (taken : ℕ) → rows_pass (link_fits taken) links ≡ links_fit links taken
 unfolding links_fit
 links_passed links taken = every_listed (link_fits taken) links 0
+
+pub ruleset rows_passed = (kinds_passed, keys_passed, links_passed)
 
 pub parties_passed : (st : State) → length st.parties ≡ 16 → rows_pass (party_fits st.taken st.count) st.parties ≡ parties_fit st
 unfolding parties_fit

@@ -292,7 +292,7 @@ fn tallies_fit(tallies: Tallies) -> bool
 }
 
 // The rows' part of good form, with so many rows taken.
-#[tactic(auto, using(crate::proofs::Rows::kinds_passed, crate::proofs::Rows::keys_passed, crate::proofs::Rows::links_passed), unfolding(crate::specs::Form::good_rows))]
+#[tactic(auto, using(crate::proofs::Rows::rows_passed), unfolding(crate::specs::Form::good_rows))]
 fn good_rows(columns: &Columns<'_>, taken: u16) -> bool
     ensures { result ≡ good_rows (table_of columns.now) taken }
 {

@@ -3,7 +3,7 @@
 
 ghost use Rattle.std.specs.Prelude.{◌≡◌, length};
 ghost use Rattle.columns.specs.Column.{zeros};
-ghost use Rattle.list_rows.specs.Table.{table_in, SameColumns, head_nxt, tail, tail_nxt};
+ghost use Rattle.list_rows.specs.Table.{table_held, SameColumns, head_nxt, tail, tail_nxt};
 ghost use Rattle.list_fresh.specs.Fresh.{ends, emptied};
 
 use columns::{clear, write};
@@ -33,7 +33,7 @@ fn fresh_nexts(next: &mut [u16])
 
 // Makes the columns those of an empty list, whatever their lengths. Refuses nothing.
 pub fn fresh_table(columns: &mut ColumnsMut<'_>)
-    ensures emptied { table_in columns.new ≡ emptied (table_in columns.old) }
+    ensures emptied { table_held columns.new ≡ emptied (table_held columns.old) }
     ensures lent { SameColumns columns.old columns.new }
 {
     fresh_kinds(columns.kind);

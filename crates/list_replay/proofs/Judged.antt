@@ -112,3 +112,5 @@ module _ (text : List ℕ) where
 
   pub rows_few : length text ≤ 65536 → first_bad text (head_of text) ≡ None → (head_of text).nodes ≤ 4096
   rows_few short is = rows_fit text short (head_good text (head_of text) is)
+
+pub ruleset out_cases = (out_large, out_bad, out_good, rows_few)

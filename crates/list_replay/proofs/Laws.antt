@@ -14,11 +14,11 @@ use Rattle.columns.specs.Column.{zeros}
 use Rattle.list_unchecked.specs.Unchecked.{Machine}
 use Rattle.list.specs.Engine.{live_keys, list_tests, places_with, list_of}
 use Rattle.page.specs.Page.{Page, put}
-use Rattle.page.proofs.Laws.{put_put}
+use Rattle.page.proofs.Laws.{put_put, put_nothing}
 use Rattle.script.specs.declared.Line.{Line}
 use Rattle.script.specs.Lines.{line_at, ends_body, next_of}
 use Rattle.script.specs.Body.{body_from}
-use Rattle.script.proofs.Laws.{body_on}
+use Rattle.script.proofs.Laws.{body_on, body_none, body_stop}
 use Rattle.list_play.specs.Play.{plain_event, line_of}
 use Rattle.list_replay.specs.Output.{plain, line_says, says_from, last_of, closing, played}
 
@@ -52,6 +52,9 @@ module _ (text : List ℕ) (order : ℕ) (m : Machine) (at : ℕ) where
       (closing plain (last_of plain_event order m' rest)))
       ∙ ap (played plain order m seen) (sym lines))
 
+-- what the loop over the lines needs
+pub ruleset body_steps = (played_end, played_on, body_none, body_stop)
+
 -- ---- the listing
 
 -- the value of an answer that has one
@@ -75,6 +78,9 @@ places_hold m places {filled} {count} e =
 pub taken_long : (m : Machine) (places : List ℕ) {filled : List ℕ} {count : ℕ} → left filled (accepted count) ≡ list_of m places →
     count ≡ length (take count filled)
 taken_long m places e = sym (length-take-le _ _ (places_hold m places e))
+
+-- what the lines of the keys need
+pub ruleset listing_steps = (places_hold, taken_long, put_nothing)
 
 -- ---- the first rows of columns of zeros
 

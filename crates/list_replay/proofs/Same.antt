@@ -51,7 +51,9 @@ four_bytes_lem a b c d p q r s (suc (suc (suc (suc place)))) = omega arith
 call_fits : (text : List ℕ) (at : ℕ) → Fits (Call (call_line text at))
 unfolding call_line
 call_fits text at =
-    let b = field_is_bytes text _ in four_bytes_lem _ _ _ _ (b.1 0 0 (omega (arith, b.0))) (b.1 1 0 (omega (arith, b.0))) (b.1 2 0 (omega (arith, b.0))) (b.1 3 0 (omega (arith, b.0)))
+    let b = field_is_bytes text _ in
+    four_bytes_lem _ _ _ _ (b.1 0 0 (omega (arith, b.0))) (b.1 1 0 (omega (arith, b.0))) (b.1 2 0 (omega (arith, b.0)))
+    (b.1 3 0 (omega (arith, b.0)))
 
 line_if : (a b d : Bool) (c : CallLine) (v n w k : ℕ) → Fits (Call c) → Fits (cond a (cond b (cond d Bad (End v n)) (Step w k)) (Call c))
 line_if true true true c v n w k fits = tt

@@ -34,7 +34,7 @@ fn run_line(engine: &mut Engine<'_>, order: u32, line: Line, number: usize, page
 }
 
 // One line for each key that a listing gives. (In a list that a schedule has grown `ListingStands`: it is not refused.)
-#[tactic(auto, using(crate::proofs::Laws::places_hold, crate::proofs::Laws::taken_long, page::proofs::Laws::put_nothing), unfolding(report::specs::Lines::key_lines))]
+#[tactic(auto, using(crate::proofs::Laws::listing_steps), unfolding(report::specs::Lines::key_lines))]
 fn put_live(columns: &Columns<'_>, state: &State, page: &mut Page<'_>)
     ensures { PutsOn page (key_lines (listed (machine (table_of columns.now) state.now))) }
 {
@@ -54,7 +54,7 @@ fn put_closing(columns: &Columns<'_>, state: &State, page: &mut Page<'_>)
 }
 
 // Runs the calls and steps of a text whose head this is, prints what comes of them, then the closing lines.
-#[tactic(auto, using(crate::proofs::Laws::played_end, crate::proofs::Laws::played_on, script::proofs::Laws::body_none, script::proofs::Laws::body_stop), unfolding(script::specs::Body::most_lines))]
+#[tactic(auto, using(crate::proofs::Laws::body_steps), unfolding(script::specs::Body::most_lines))]
 fn run_body(text: &[u8], head: Head, engine: &mut Engine<'_>, page: &mut Page<'_>)
     ensures { PutsOn page (played plain head.order (machine_of engine.old) 0 (body_of text.now head)) }
 {
@@ -96,7 +96,7 @@ fn run_new(text: &[u8], head: Head, page: &mut Page<'_>)
 }
 
 // Prints the output of a schedule's text.
-#[tactic(auto, using(crate::proofs::Judged::out_large, crate::proofs::Judged::out_bad, crate::proofs::Judged::out_good, crate::proofs::Judged::rows_few))]
+#[tactic(auto, using(crate::proofs::Judged::out_cases))]
 fn put_output(text: &[u8], page: &mut Page<'_>)
     ensures { PutsOn page (output_of text.now) }
 {

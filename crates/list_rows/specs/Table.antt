@@ -20,8 +20,8 @@ abbrev pub table_of : Columns → Table
 table_of columns = tab columns.kind.now columns.key.now columns.next.now columns.back.now
 
 -- lent to be changed, by &mut
-abbrev pub table_in : ColumnsMut → Table
-table_in columns = tab columns.kind.now columns.key.now columns.next.now columns.back.now
+abbrev pub table_held : ColumnsMut → Table
+table_held columns = tab columns.kind.now columns.key.now columns.next.now columns.back.now
 
 -- still the columns that were lent, and no others: what is written in them is written for who lent them
 pub record SameColumns (before after : ColumnsMut) : Type 0 where

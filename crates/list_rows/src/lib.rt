@@ -1,10 +1,10 @@
-// Rows: the four lent columns as one table, the four end rows, the kinds, the order, and the writes of a call or a move.
+// Rows: the four lent columns, the end rows, the kinds, the order, and the writes that a call or a move makes.
 #![tactic(auto)]
 
 ghost use Rattle.std.specs.Prelude.{◌≡◌};
 ghost use Rattle.list_rows.specs.Table.{
   table_of,
-  table_in,
+  table_held,
   SameColumns,
   kind_at,
   key_at,
@@ -163,7 +163,7 @@ pub struct ColumnsMut<'a> {
 impl ColumnsMut<'_> {
     // The same columns, lent on to be read.
     pub fn view(&self) -> Columns<'_>
-        ensures { table_of result ≡ table_in self.now }
+        ensures { table_of result ≡ table_held self.now }
     {
         Columns {
             kind: self.kind,
@@ -175,7 +175,7 @@ impl ColumnsMut<'_> {
 
     // Writes all four entries of a row.
     fn write_row(&mut self, row: u16, kind: u8, key: u32, next: u16, back: u16)
-        ensures written { table_in self.new ≡ with_row (table_in self.old) row kind key next back }
+        ensures written { table_held self.new ≡ with_row (table_held self.old) row kind key next back }
         ensures lent { SameColumns self.old self.new }
     {
         write(self.kind, row, kind);
@@ -186,7 +186,7 @@ impl ColumnsMut<'_> {
 
     // Makes a write. Nothing is tested or refused: past the end of a column nothing is written.
     pub fn apply(&mut self, what: Write)
-        ensures written { table_in self.new ≡ written what (table_in self.old) }
+        ensures written { table_held self.new ≡ written what (table_held self.old) }
         ensures lent { SameColumns self.old self.new }
     {
         match what {

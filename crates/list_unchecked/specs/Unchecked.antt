@@ -10,7 +10,7 @@ use Rattle.list_party.specs.declared.State.{State}
 use Rattle.list_party.specs.Party.{party_record, goes_to}
 use Rattle.list_party.specs.State.{party_at, with_party, with_taken, tallied}
 use Rattle.list_rows.specs.declared.Write.TheVariants.{Untouched, Item}
-use Rattle.list_rows.specs.Table.{Table, table_in, head, head_nxt}
+use Rattle.list_rows.specs.Table.{Table, table_held, head, head_nxt}
 use Rattle.list_rows.specs.Writes.{written}
 use Rattle.list_moves.specs.declared.Moved.{Moved}
 use Rattle.list_moves.specs.Moves.{move_at}
@@ -27,7 +27,7 @@ machine table state = record { table = table; state = state }
 
 -- what the code works on: the four lent columns and the state
 abbrev pub machine_of : Engine → Machine
-machine_of engine = machine (table_in engine.columns) engine.state
+machine_of engine = machine (table_held engine.columns) engine.state
 
 -- party i of the machine
 abbrev pub party_of : Machine → ℕ → Party

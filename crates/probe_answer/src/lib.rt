@@ -3,7 +3,7 @@
 
 ghost use Rattle.std.specs.Prelude.{◌≡◌, true};
 ghost use Rattle.refusal.specs.Answer.{answer_is, left, verdict_is};
-ghost use Rattle.list_rows.specs.Table.{table_of, table_in, SameColumns};
+ghost use Rattle.list_rows.specs.Table.{table_of, table_held, SameColumns};
 ghost use Rattle.page.specs.Page.{Puts, PutsOn};
 ghost use Rattle.list_unchecked.specs.Unchecked.{machine, machine_of};
 ghost use Rattle.list.specs.Answers.{listed_is};
@@ -129,7 +129,7 @@ fn put_seen(page: &mut Page<'_>, found: Found, places: &[u32], columns: &Columns
 
 // Reads the state into the rooms, asks, and writes all that is seen.
 fn ask_in(bytes: &[u8], engine: &mut Engine<'_>, places: &mut [u32], page: &mut Page<'_>)
-    requires { (rooms_fit bytes.now (table_in engine.old.columns) ≡ true)
+    requires { (rooms_fit bytes.now (table_held engine.old.columns) ≡ true)
         × (places.old ≡ unwritten (places_in bytes.now)) }
     ensures { PutsOn page (seen_bytes (seen_of bytes.now)) }
 {

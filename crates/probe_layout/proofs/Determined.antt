@@ -2,7 +2,7 @@
 -- Assumes nothing.
 use Rattle.logic.specs.Outcome.{OneOutcome}
 use Rattle.logic.proofs.Outcome.{by_equation}
-use Rattle.list_rows.specs.Table.{table_in}
+use Rattle.list_rows.specs.Table.{table_held}
 use Rattle.page.proofs.Determined.{held, one_lent}
 use Rattle.probe_layout.proofs.question_in.Reads as question_in
 use Rattle.probe_layout.proofs.read.fits.Reads as fits
@@ -24,7 +24,7 @@ pub state_in_fixed : OneOutcome state_in.Post (λ κs answer exit. answer)
 state_in_fixed κs given answer₁ answer₂ exit₁ exit₂ = by_equation
 
 -- the four columns
-pub read_table_fixed : OneOutcome read_table.Post (λ κs answer exit. table_in exit.1.0.now)
+pub read_table_fixed : OneOutcome read_table.Post (λ κs answer exit. table_held exit.1.0.now)
 read_table_fixed κs given answer₁ answer₂ exit₁ exit₂ first second = by_equation first.0 second.0
 
 -- ---- what is put on a page: the page once it is there

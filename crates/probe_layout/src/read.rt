@@ -1,7 +1,7 @@
 // What is read from a question: numbers, party records, columns, and whether all of it fits the layout.
 ghost use Rattle.std.specs.Prelude.{◌≡◌, true, ◌+◌, ◌*◌};
 ghost use Rattle.logic.specs.Every.{every};
-ghost use Rattle.list_rows.specs.Table.{table_in as table_held, SameColumns};
+ghost use Rattle.list_rows.specs.Table.{table_held, SameColumns};
 ghost use Rattle.probe_layout.specs.Records.{record_fits};
 ghost use Rattle.probe_layout.specs.Layout.{table_in, rooms_fit, table_into, tallies_in, state_in, fits, end_of};
 

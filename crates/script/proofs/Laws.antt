@@ -1,6 +1,7 @@
 -- The body and its first bad line, line by line.
 -- Assumes nothing.
 use Rattle.std.proofs.Common.{◌≡◌, refl, true, false, List, [], ◌∷◌, ℕ, zero, suc, ◌-◌, ◌<◌, not-suc-le-zero, sub-one}
+use Rattle.text.proofs.Laws.{one_left}
 use Rattle.script.specs.Lines.{line_at, ends_body, next_of}
 use Rattle.script.specs.Body.{body_from}
 
@@ -20,3 +21,6 @@ module _ (text : List ℕ) (at : ℕ) where
   unfolding body_from
   body_on zero h e = absurd (not-suc-le-zero h)
   body_on (suc k) h e = rw (e, sub-one)
+
+-- what the loop over the lines of a body needs
+pub ruleset on = (one_left)

@@ -257,7 +257,7 @@ pub fn most_lines(text: &[u8]) -> usize
 }
 
 // The number of the first bad line of a body that starts at a place.
-#[tactic(auto, unfolding(crate::specs::Body::bad_from, crate::specs::Body::most_lines), using(text::proofs::Laws::one_left))]
+#[tactic(auto, unfolding(crate::specs::Body::bad_from, crate::specs::Body::most_lines), using(crate::proofs::Laws::on))]
 fn body_bad(text: &[u8], from: usize) -> Option<usize>
     ensures { result ≡ bad_from text.now 0 from (most_lines text.now) }
 {
