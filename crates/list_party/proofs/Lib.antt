@@ -1,3 +1,2 @@
--- The law that the proofs of the party table cite, and that the contracts leave no choice.
-pub mod Laws
+-- That the contracts leave no choice.
 pub mod Determined

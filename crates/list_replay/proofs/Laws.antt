@@ -1,16 +1,14 @@
 -- A run line by line, and the places that a listing has filled.
 -- Assumes nothing.
-use mathlib.Core.Path.{◌≡◌, refl, ap, sym, ◌∙◌}
+use mathlib.Core.Path.{◌≡◌, ap, sym, ◌∙◌}
 use mathlib.Core.Bool.{false}
 use mathlib.Core.List.{List, [], ◌∷◌, append_assoc}
-use Prim.Native.Nat.{ℕ, zero, suc, ◌+◌, ◌-◌, ◌<◌, ◌≤◌}
-use lib.ListN.{length, take, length-append, length-replicate}
+use Prim.Native.Nat.{ℕ, ◌+◌, ◌-◌, ◌<◌, ◌≤◌}
+use lib.ListN.{length, take, length-append}
 use lib.Seq.{length-take-le}
-use native.Mathlib.Nat.{not-suc-le-zero, le_of_suc-le-suc}
 use native.Mathlib.Omega.{arith}
 use Rattle.refusal.specs.Answer.{Answer, accepted, refused, Left, left}
 use Rattle.refusal.proofs.Laws.{change_past, leaves_changed}
-use Rattle.columns.specs.Column.{zeros}
 use Rattle.list_unchecked.specs.Unchecked.{Machine}
 use Rattle.list.specs.Engine.{live_keys, list_tests, places_with, list_of}
 use Rattle.page.specs.Page.{Page, put}
@@ -81,13 +79,3 @@ taken_long m places e = sym (length-take-le _ _ (places_hold m places e))
 
 -- what the lines of the keys need
 pub ruleset listing_steps = (places_hold, taken_long, put_nothing)
-
--- ---- the first rows of columns of zeros
-
-pub part_zeros : (total n : ℕ) → n ≤ total → take n (zeros total) ≡ zeros n
-part_zeros total zero h = refl
-part_zeros zero (suc n) h = absurd (not-suc-le-zero h)
-part_zeros (suc total) (suc n) h = ap (λ (l : List ℕ). 0 ∷ l) (part_zeros total n (le_of_suc-le-suc h))
-
-pub part_long : (total n : ℕ) → n ≤ total → n ≡ length (take n (zeros total))
-part_long total n h = sym (ap length (part_zeros total n h) ∙ length-replicate n 0)

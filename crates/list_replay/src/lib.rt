@@ -71,7 +71,6 @@ fn run_body(text: &[u8], head: Head, engine: &mut Engine<'_>, page: &mut Page<'_
 }
 
 // Runs the text on a list of its own, of as many rows as its head says.
-#[tactic(auto, using(crate::proofs::Laws::part_zeros))]
 fn run_new(text: &[u8], head: Head, page: &mut Page<'_>)
     requires { head.nodes ≤ 4096 }
     ensures { PutsOn page (played plain head.order (fresh head.nodes head.parties) 0 (body_of text.now head)) }

@@ -1,4 +1,3 @@
--- The laws of ranks and writes, the order of the rows, and that the contracts leave no choice.
-pub mod Laws
+-- The order of the rows, and that the contracts leave no choice.
 pub mod Order
 pub mod Determined

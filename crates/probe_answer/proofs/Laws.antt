@@ -5,6 +5,7 @@ use mathlib.Core.Bool.{true, false}
 use mathlib.Core.List.{List, [], ◌∷◌}
 use Prim.Native.Nat.{ℕ, zero, suc, ◌≤◌}
 use native.Mathlib.Nat.{not-suc-le-zero, le_of_suc-le-suc}
+use Rattle.std.proofs.lemmas.List.{take-replicate}
 use lib.ListN.{length, take, replicate, length-replicate}
 use Rattle.list_rows.specs.Table.{Table, tab}
 use Rattle.list_party.specs.declared.State.{State}
@@ -22,17 +23,11 @@ pub seen_told : (bytes : List ℕ) (came : Table) {t : Table} {asked : Question}
 unfolding seen_of
 seen_told bytes came fit tables question states rooms e = rw (tables ∙ sym (table_read bytes came fit), question, states, rooms) at e
 
--- ---- the first entries of a column that is filled with one number
-
-part_filled : (value total n : ℕ) → n ≤ total → take n (replicate total value) ≡ replicate n value
-part_filled value total zero h = refl
-part_filled value zero (suc n) h = absurd (not-suc-le-zero h)
-part_filled value (suc total) (suc n) h = ap {B = List ℕ} (λ (l : List ℕ). value ∷ l) (part_filled value total n (le_of_suc-le-suc h))
+-- ---- columns lent as far as a question says
 
 pub part_long : (value total n : ℕ) → n ≤ total → n ≡ length (take n (replicate total value))
-part_long value total n h = sym (ap length (part_filled value total n h) ∙ length-replicate n value)
+part_long value total n h = rw (take-replicate n total value h) (sym (length-replicate n value))
 
--- ---- columns lent as far as a question says
 
 -- no length of the question is more than this
 pub record AtMost (total : ℕ) (asked : Question) : Type 0 where
@@ -64,7 +59,7 @@ rooms_lent bytes total {asked} is most =
 pub places_lent : (bytes : List ℕ) (total : ℕ) {asked : Question} → asked ≡ question_in bytes → AtMost total asked →
     take asked.places (replicate total 4008636142) ≡ unwritten (places_in bytes)
 places_lent bytes total {asked} is most =
-    part_filled 4008636142 total asked.places most.places ∙ ap (λ (q : Question). unwritten q.places) is
+    take-replicate asked.places total 4008636142 most.places ∙ ap (λ (q : Question). unwritten q.places) is
 
 -- ---- bytes that fit, and bytes that do not
 

@@ -4,8 +4,8 @@ use mathlib.Core.Path.{◌≡◌, refl, ap, sym, ◌∙◌}
 use mathlib.Core.List.{List, [], ◌∷◌}
 use Prim.Native.Nat.{ℕ}
 use lib.ListN.{get_or}
-use Prim.{Unit, tt}
-use Rattle.std.specs.Prelude.{Result, Ok, Err}
+use Prim.{tt}
+use Rattle.std.specs.Prelude.{Ok, Err}
 use Rattle.refusal.specs.declared.Refusal.{Refusal}
 use Rattle.refusal.specs.declared.Refusal.TheVariants.{
   BadColumns,
@@ -21,7 +21,6 @@ use Rattle.refusal.specs.declared.Refusal.TheVariants.{
   NoSuchOrder,
 }
 use Rattle.refusal.specs.Number.{number_of}
-use Rattle.refusal.specs.Answer.{Tests, verdict_is}
 use Rattle.refusal.specs.Claims.{NumbersDiffer, AnswersDiffer, VerdictsDiffer}
 use Rattle.refusal.proofs.Laws.{not_both}
 
@@ -58,7 +57,3 @@ answers_differ A B read told (Err a) (Err b) e = let n : number_of a ≡ number_
 
 pub verdicts_differ : VerdictsDiffer
 verdicts_differ = answers_differ _ _ (λ found. tt) (λ x y same. refl)
-
--- what the tests found, from the code's verdict and its contract
-pub tests_told : {found verdict : Result (Unit {0}) Refusal} {tests : Tests} → verdict_is found ≡ tests → found ≡ verdict → tests ≡ verdict_is verdict
-tests_told meets is = sym meets ∙ ap verdict_is is

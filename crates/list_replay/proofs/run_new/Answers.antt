@@ -11,7 +11,7 @@ use Rattle.list_unchecked.specs.Unchecked.{Machine, machine}
 use Rattle.list.specs.Engine.{set_up_of}
 use Rattle.script.specs.Body.{body_of}
 use Rattle.list_replay.specs.Output.{plain, played}
-use Rattle.list_replay.proofs.Laws.{part_zeros}
+use Rattle.std.proofs.lemmas.List.{take-replicate}
 use Rattle.list_replay.proofs.run_new.Goals as goal
 
 pub returns : goal.returns
@@ -22,5 +22,5 @@ returns c =
     let fresh_list =
     ap (λ (l : Left Machine (Unit {0})). l.memory) c.set_up.ensures.leaves
     ∙ ap (set_up_on (take head.nodes (zeros 4096))) c.resting.ensures
-    ∙ ap (λ (l : List ℕ). set_up_on l (resting_state 0 0)) (part_zeros 4096 head.nodes c.requires) in
+    ∙ ap (λ (l : List ℕ). set_up_on l (resting_state 0 0)) (take-replicate head.nodes 4096 0 c.requires) in
     (c.run_body.ensures.0 ∙ ap (λ (m : Machine). put (page_of c.args.page.now) (prints m)) fresh_list, c.run_body.ensures.1)
