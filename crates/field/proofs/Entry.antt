@@ -1,20 +1,15 @@
 -- The two entry points case by case: what the tests found, and what is then answered and left.
 -- Assumes nothing.
-use mathlib.Core.Path.{◌≡◌, ap, sym, ◌∙◌}
+use mathlib.Core.Path.{◌≡◌}
 use mathlib.Core.Bool.{true, false}
 use mathlib.Core.List.{List}
-use Prim.Native.Nat.{ℕ, ◌+◌, ◌*◌, ◌/◌, ◌%◌, ◌≤◌}
-use native.Mathlib.Nat.{div-one}
-use native.Mathlib.Omega.{arith}
+use Prim.Native.Nat.{ℕ, ◌+◌, ◌≤◌}
 use lib.ListN.{length}
 use borrow.Author.Tests.{ltb-false}
 use Rattle.refusal.specs.Answer.{accepted, refused, left, passed, refusing}
 use Rattle.refusal.proofs.Laws.{past_test}
 use Rattle.field.specs.declared.ByteOrder.{ByteOrder}
-use Rattle.field.specs.declared.Four.{Four}
-use Rattle.field.specs.Layout.{high_number, high_bytes, arranged, number_in, bytes_in}
-use Rattle.field.specs.Field.{bytes_at, put_bytes, field_at, stored, order_of, no_such_order, runs_past, field_tests, load_of, store_of}
-use Rattle.field.specs.Readings.{four_bytes}
+use Rattle.field.specs.Field.{field_at, stored, order_of, no_such_order, runs_past, field_tests, load_of, store_of}
 
 -- ---- the tests, in their order
 
@@ -51,15 +46,6 @@ module _ (bytes : List ℕ) (place code : ℕ) where
   unfolding load_of
   load_refuses stops = rw stops
 
--- the sum of four bytes in their order is what the field holds
-pub key_held : (order : ByteOrder) (bytes : List ℕ) (place : ℕ) (read high : Four) {key : ℕ} →
-    four_bytes read ≡ bytes_at 4 bytes place → four_bytes high ≡ arranged order (four_bytes read) →
-    key ≡ high.0 * 16777216 + high.1 * 65536 + high.2 * 256 + high.3 → key ≡ field_at order 4 bytes place
-unfolding field_at number_in
-key_held order bytes place read high {key} at_place in_order sum =
-    let number : key ≡ high_number (four_bytes high) = omega arith in
-    number ∙ ap high_number (in_order ∙ ap (arranged order) at_place)
-
 -- ---- a store
 
 module _ (bytes : List ℕ) (place code key : ℕ) where
@@ -72,13 +58,3 @@ module _ (bytes : List ℕ) (place code key : ℕ) where
   pub store_refuses : {number : ℕ} → field_tests (length bytes) place code ≡ refused number → left bytes (refused number) ≡ store_of bytes place code key
   unfolding store_of
   store_refuses stops = rw stops
-
--- four bytes split from a key, in their order, written at the place: the key is stored
-pub key_stored : (order : ByteOrder) (bytes : List ℕ) (place key : ℕ) (high new : Four) {after : List ℕ} →
-    (high.0 ≡ key / 16777216 % 256) × (high.1 ≡ key / 65536 % 256) × (high.2 ≡ key / 256 % 256) × (high.3 ≡ key % 256) →
-    four_bytes new ≡ arranged order (four_bytes high) → after ≡ put_bytes bytes place (four_bytes new) → after ≡ stored order 4 bytes place key
-unfolding stored bytes_in
-key_stored order bytes place key high new parts in_order written =
-    let last : high.3 ≡ key / 1 % 256 = parts.3 ∙ sym (ap (λ (n : ℕ). n % 256) (div-one key)) in
-    let split : four_bytes high ≡ high_bytes 4 key = rw (parts.0, parts.1, parts.2, last) in
-    written ∙ ap (put_bytes bytes place) (in_order ∙ ap (arranged order) split)

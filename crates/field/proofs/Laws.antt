@@ -1,14 +1,12 @@
--- What the code's shifts and writes are: shifts and ors as sums of products, four bytes written as a list.
+-- What the code's shifts are: shifts and ors as sums of products, and that sum as the number of four bytes.
 -- Assumes nothing.
 use mathlib.Core.Path.{◌≡◌, refl}
 use mathlib.Core.List.{List, [], ◌∷◌}
-use Prim.Native.Nat.{ℕ, ◌+◌, ◌*◌, ◌%◌, ◌^◌, ◌<◌, ◌≤◌}
+use Prim.Native.Nat.{ℕ, ◌+◌, ◌*◌, ◌%◌, ◌^◌, ◌<◌}
 use native.Mathlib.Omega.{arith}
-use native.Mathlib.Numerals.{add-one, add-two, add-three}
 use lib.Bits.{bit_or, or_shifted}
-use lib.ListN.{length, set}
-use lib.Seq.{sets-eq}
-use Rattle.field.specs.Field.{put_bytes}
+use lib.ListN.{length, get_or}
+use Rattle.field.specs.Layout.{high_number}
 
 -- ---- shifts and masks
 
@@ -32,8 +30,12 @@ joined a b c d a_byte b_byte c_byte d_byte =
       or_sum 8 (a * 16777216 + b * 65536 + c * 256) (a * 65536 + b * 256 + c) d (omega arith) (omega arith),
     )
 
--- ---- four bytes
-
-pub four_written : (bytes : List ℕ) (place a b c d : ℕ) → place + 4 ≤ length bytes →
-    set (set (set (set bytes place a) (place + 1) b) (place + 2) c) (place + 3) d ≡ put_bytes bytes place (a ∷ b ∷ c ∷ d ∷ [])
-four_written bytes place a b c d within = rw (add-one, add-two, add-three) (sets-eq (a ∷ b ∷ c ∷ d ∷ []) bytes place within)
+-- the sum that four bytes count is their number, the high byte first
+pub counted : (four : List ℕ) → length four ≡ 4 →
+    get_or four 0 0 * 16777216 + get_or four 1 0 * 65536 + get_or four 2 0 * 256 + get_or four 3 0 ≡ high_number four
+counted [] long = absurd (omega arith)
+counted (a ∷ []) long = absurd (omega arith)
+counted (a ∷ b ∷ []) long = absurd (omega arith)
+counted (a ∷ b ∷ c ∷ []) long = absurd (omega arith)
+counted (a ∷ b ∷ c ∷ d ∷ []) long = omega arith
+counted (a ∷ b ∷ c ∷ d ∷ e ∷ more) long = absurd (omega arith)

@@ -1,10 +1,9 @@
--- The code's own values in the document's terms: its answer to a load, what its store leaves, its four bytes.
+-- The code's own values in the document's terms: its answer to a load, what its store leaves.
 use Prim.{Unit}
-use Rattle.std.specs.Prelude.{List, [], ◌∷◌, ℕ, Result}
+use Rattle.std.specs.Prelude.{List, ℕ, Result}
 use Rattle.refusal.specs.declared.Refusal.{Refusal}
 use Rattle.refusal.specs.Answer.{Answer, answer_is, Left, left, verdict_is}
 use Rattle.field.specs.declared.ByteOrder.{ByteOrder}
-use Rattle.field.specs.declared.Four.{Four}
 
 -- what the tests of a field give: the order, or the refusal's number
 abbrev pub order_is : Result ByteOrder Refusal → Answer ByteOrder
@@ -17,7 +16,3 @@ loaded_is loaded = answer_is (λ key. key) loaded
 -- what a store leaves: the record afterwards, and that it was done or the refusal's number
 abbrev pub store_leaves : List ℕ → Result (Unit {0}) Refusal → Left (List ℕ) (Unit {0})
 store_leaves bytes answer = left bytes (verdict_is answer)
-
--- four bytes as a list
-abbrev pub four_bytes : Four → List ℕ
-four_bytes four = four.0 ∷ four.1 ∷ four.2 ∷ four.3 ∷ []

@@ -1,7 +1,7 @@
 // Key fields: four bytes at a place of a lent record, loaded and stored in either byte order.
 #![tactic(auto)]
 
-ghost use Rattle.std.specs.Prelude.{◌≡◌, ◌+◌, ◌*◌, ◌/◌, ◌%◌, ◌<◌, ◌≤◌, length, set};
+ghost use Rattle.std.specs.Prelude.{◌≡◌, ◌+◌, ◌*◌, ◌/◌, ◌%◌, ◌<◌, ◌≤◌, [], ◌∷◌, length, get_or};
 ghost use Rattle.refusal.specs.Answer.{accepted, answering};
 ghost use Rattle.field.specs.Layout.{arranged};
 ghost use Rattle.field.specs.Field.{
@@ -16,7 +16,7 @@ ghost use Rattle.field.specs.Field.{
   load_of,
   store_of,
 };
-ghost use Rattle.field.specs.Readings.{order_is, loaded_is, store_leaves, four_bytes};
+ghost use Rattle.field.specs.Readings.{order_is, loaded_is, store_leaves};
 
 use refusal::Refusal;
 
@@ -42,75 +42,54 @@ impl TryFrom<u32> for ByteOrder {
     }
 }
 
-// The four bytes of a field, as they stand.
-#[derive(Clone, Copy)]
-struct Four(u8, u8, u8, u8);
-
 // The number of four bytes, the high byte first.
 #[tactic(auto, using(crate::proofs::Laws::joined))]
-fn join(four: Four) -> u32
-    ensures { result ≡ four.0 * 16777216 + four.1 * 65536 + four.2 * 256 + four.3 }
+fn join(four: [u8; 4]) -> u32
+    ensures { result ≡ get_or four 0 0 * 16777216 + get_or four 1 0 * 65536 + get_or four 2 0 * 256 + get_or four 3 0 }
 {
-    (u32::from(four.0) << 24)
-        | (u32::from(four.1) << 16)
-        | (u32::from(four.2) << 8)
-        | u32::from(four.3)
+    let [first, second, third, last] = four;
+    (u32::from(first) << 24) | (u32::from(second) << 16) | (u32::from(third) << 8) | u32::from(last)
 }
 
 // The four bytes of a number, the high byte first.
-fn split(key: u32) -> Four
-    ensures { (result.0 ≡ key / 16777216 % 256) × (result.1 ≡ key / 65536 % 256)
-        × (result.2 ≡ key / 256 % 256) × (result.3 ≡ key % 256) }
+fn split(key: u32) -> [u8; 4]
+    ensures { result ≡ key / 16777216 % 256 ∷ key / 65536 % 256 ∷ key / 256 % 256 ∷ key % 256 ∷ [] }
 {
-    Four(
+    [
         ((key >> 24) & 255) as u8,
         ((key >> 16) & 255) as u8,
         ((key >> 8) & 255) as u8,
         (key & 255) as u8,
-    )
+    ]
 }
 
 // Four bytes arranged from high first to the order, or back.
-fn arrange(order: ByteOrder, four: Four) -> Four
-    ensures { four_bytes result ≡ arranged order (four_bytes four) }
+fn arrange(order: ByteOrder, mut four: [u8; 4]) -> [u8; 4]
+    ensures { result ≡ arranged order four }
 {
     match order {
         ByteOrder::HighFirst => four,
-        ByteOrder::LowFirst => Four(four.3, four.2, four.1, four.0),
+        ByteOrder::LowFirst => {
+            four.reverse();
+            four
+        }
     }
 }
 
 // The four bytes from a place on.
-fn four_at(bytes: &[u8], place: usize) -> Four
+fn four_at(bytes: &[u8], place: usize) -> [u8; 4]
     requires { place + 4 ≤ length bytes.now }
-    ensures { four_bytes result ≡ bytes_at 4 bytes.now place }
+    ensures { result ≡ bytes_at 4 bytes.now place }
 {
-    Four(
-        bytes[place],
-        bytes[place + 1],
-        bytes[place + 2],
-        bytes[place + 3],
-    )
-}
-
-// One byte written at a place, and no other.
-fn put(bytes: &mut [u8], place: usize, byte: u8)
-    requires { place < length bytes.old }
-    ensures { bytes.new ≡ set bytes.old place byte }
-{
-    bytes[place] = byte;
+    bytes[place..place + 4].try_into().unwrap()
 }
 
 // Four bytes written from a place on, and no other.
-#[tactic(auto, using(crate::proofs::Laws::four_written))]
-fn put_four(bytes: &mut [u8], place: usize, four: Four)
+fn put_four(bytes: &mut [u8], place: usize, four: [u8; 4])
     requires { place + 4 ≤ length bytes.old }
-    ensures { bytes.new ≡ put_bytes bytes.old place (four_bytes four) }
+    ensures { bytes.new ≡ put_bytes bytes.old place four }
 {
-    put(bytes, place, four.0);
-    put(bytes, place + 1, four.1);
-    put(bytes, place + 2, four.2);
-    put(bytes, place + 3, four.3);
+    bytes[place..place + 4].copy_from_slice(&four);
 }
 
 // Whether a field at a place runs past the end of a record of this length.
@@ -134,6 +113,7 @@ fn field_asks(len: usize, place: usize, code: u32) -> Result<ByteOrder, Refusal>
 }
 
 // The key that the field at a place holds in an order.
+#[tactic(auto, using(crate::proofs::Laws::counted), unfolding(crate::specs::Field::field_at, crate::specs::Layout::number_in))]
 fn key_at(bytes: &[u8], place: usize, order: ByteOrder) -> u32
     requires { place + 4 ≤ length bytes.now }
     ensures { result ≡ field_at order 4 bytes.now place }
@@ -142,6 +122,7 @@ fn key_at(bytes: &[u8], place: usize, order: ByteOrder) -> u32
 }
 
 // The key's four bytes written to the field at a place in an order, and no other byte.
+#[tactic(auto, unfolding(crate::specs::Field::stored, crate::specs::Layout::bytes_in))]
 fn put_key(bytes: &mut [u8], place: usize, order: ByteOrder, key: u32)
     requires { place + 4 ≤ length bytes.old }
     ensures { bytes.new ≡ stored order 4 bytes.old place key }
