@@ -6,7 +6,9 @@ use Prim.Native.Nat.{ℕ, ◌+◌, ◌*◌, ◌%◌, ◌^◌, ◌<◌}
 use native.Mathlib.Omega.{arith}
 use lib.Bits.{bit_or, or_shifted}
 use lib.ListN.{length, get_or}
-use Rattle.field.specs.Layout.{high_number}
+use Rattle.field.specs.declared.ByteOrder.{ByteOrder}
+use Rattle.field.specs.Layout.{high_number, arranged, number_in}
+use Rattle.field.specs.Field.{bytes_at, field_at}
 
 -- ---- shifts and masks
 
@@ -39,3 +41,8 @@ counted (a ∷ b ∷ []) long = absurd (omega arith)
 counted (a ∷ b ∷ c ∷ []) long = absurd (omega arith)
 counted (a ∷ b ∷ c ∷ d ∷ []) long = omega arith
 counted (a ∷ b ∷ c ∷ d ∷ e ∷ more) long = absurd (omega arith)
+
+-- and the number of the bytes of a field, arranged high byte first, is what it holds
+pub held : (order : ByteOrder) (bytes : List ℕ) (place : ℕ) → high_number (arranged order (bytes_at 4 bytes place)) ≡ field_at order 4 bytes place
+unfolding field_at number_in
+held order bytes place = refl

@@ -113,7 +113,7 @@ fn field_asks(len: usize, place: usize, code: u32) -> Result<ByteOrder, Refusal>
 }
 
 // The key that the field at a place holds in an order.
-#[tactic(auto, using(crate::proofs::Laws::counted), unfolding(crate::specs::Field::field_at, crate::specs::Layout::number_in))]
+#[tactic(auto, using(crate::proofs::Laws::counted, crate::proofs::Laws::held))]
 fn key_at(bytes: &[u8], place: usize, order: ByteOrder) -> u32
     requires { place + 4 ≤ length bytes.now }
     ensures { result ≡ field_at order 4 bytes.now place }

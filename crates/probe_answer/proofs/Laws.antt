@@ -1,10 +1,9 @@
 -- What an outcome comes to, which question is asked, the columns that are lent to it, and bytes that fit or do not.
 -- Assumes nothing.
-use mathlib.Core.Path.{◌≡◌, refl, ap, sym, ◌∙◌}
+use mathlib.Core.Path.{◌≡◌, ap, sym, ◌∙◌}
 use mathlib.Core.Bool.{true, false}
 use mathlib.Core.List.{List, [], ◌∷◌}
-use Prim.Native.Nat.{ℕ, zero, suc, ◌≤◌}
-use native.Mathlib.Nat.{not-suc-le-zero, le_of_suc-le-suc}
+use Prim.Native.Nat.{ℕ, ◌≤◌}
 use Rattle.std.proofs.lemmas.List.{take-replicate}
 use lib.ListN.{length, take, replicate, length-replicate}
 use Rattle.list_rows.specs.Table.{Table, tab}
@@ -27,7 +26,6 @@ seen_told bytes came fit tables question states rooms e = rw (tables ∙ sym (ta
 
 pub part_long : (value total n : ℕ) → n ≤ total → n ≡ length (take n (replicate total value))
 part_long value total n h = rw (take-replicate n total value h) (sym (length-replicate n value))
-
 
 -- no length of the question is more than this
 pub record AtMost (total : ℕ) (asked : Question) : Type 0 where
