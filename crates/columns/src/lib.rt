@@ -51,14 +51,14 @@ impl Entry for u32 {
 pub fn read<T: Entry>(column: &[T], row: u16) -> T
     ensures { result ≡ get_or column.now row T.ZERO }
 {
-    column.get(row as usize).copied().unwrap_or(T::ZERO)
+    column.get(usize::from(row)).copied().unwrap_or(T::ZERO)
 }
 
 // Puts a value at a row of a column.
 pub fn write<T: Entry>(column: &mut [T], row: u16, value: T)
     ensures { column.new ≡ set column.old row value }
 {
-    let i = row as usize;
+    let i = usize::from(row);
     if i < column.len() {
         column[i] = value;
     }
