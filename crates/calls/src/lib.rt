@@ -22,7 +22,7 @@ pub struct Asked {
     pub key: u32,
 }
 
-// What is said with a move: nothing yet, or the answer of the call.
+// What is said with a move: nothing yet, or the answer of the call. Three words of document 01, so no Option.
 #[derive(Clone, Copy)]
 pub enum Said {
     Nothing,
@@ -65,13 +65,14 @@ impl TryFrom<u32> for Call {
 
 impl Call {
     // The call of a code. Refuses nothing: a code over 2 gives CONTAINS here; the entry points refuse it (6) before.
+    // It stands beside `try_from` because it cannot fail: the probe reads a party record from any bytes.
     pub fn named(code: u32) -> Call
         ensures { result ≡ call_named code }
     {
         Call::try_from(code).unwrap_or(Call::Contains)
     }
 
-    // The code of a call.
+    // The code of a call. (By name: `u8::from(call)` would not say which number is meant.)
     pub fn code(self) -> u8
         ensures { result ≡ code_of self }
     {

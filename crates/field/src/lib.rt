@@ -130,7 +130,8 @@ fn put_key(bytes: &mut [u8], place: usize, order: ByteOrder, key: u32)
     put_four(bytes, place, arrange(order, split(key)))
 }
 
-// The key that the field at a place holds in the order that the code names, or the refusal.
+// The key that the field at a place holds in the order that the code names, or the refusal. The code is any number,
+// and to refuse a wrong one (11) is asked of it.
 #[tactic(auto, using(crate::proofs::Entry::is_inside), unfolding(crate::specs::Field::load_of))]
 pub fn load(bytes: &[u8], place: usize, code: u32) -> Result<u32, Refusal>
     ensures { loaded_is result ≡ load_of bytes.now place code }

@@ -127,7 +127,8 @@ fn form_asks(columns: &Columns<'_>, state: &State) -> Result<(), Refusal>
     Ok(())
 }
 
-// Starts a call of a party. Refusals 1, 3, 4, 5, 6, 7; refused, all is as it came.
+// Starts a call of a party. Refusals 1, 3, 4, 5, 6, 7; refused, all is as it came. The code is any number, and to
+// refuse a wrong one (6) is asked of it.
 #[tactic(auto, unfolding(crate::specs::Engine::call_of))]
 pub fn call(engine: &mut Engine<'_>, number: u32, code: u32, wanted: u32) -> Result<(), Refusal>
     ensures leaves { left (machine_of engine.new) (verdict_is result)

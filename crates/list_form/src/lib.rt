@@ -130,6 +130,9 @@ fn link_fits(taken: usize, row: usize, to: u16) -> bool
     to == 0
 }
 
+// The next three differ in what they ask of an entry. With that test as a closure they would be one function, but the
+// proof that the chain's answer is the closure's did not close.
+
 // Whether all kinds fit.
 fn kinds_fit(kind: &[u8], taken: u16) -> bool
     ensures { result ≡ rows_pass (kind_fits taken) kind.now }

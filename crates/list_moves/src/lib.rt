@@ -114,6 +114,9 @@ fn prepare(party: Party, call: Call, wanted: u32) -> Moved
     readies(party.goes_to(Place::AddSwap(call, wanted), kept), link)
 }
 
+// In each of these the call and the key go beside the party: its place carries them, as document 01 asks, and is
+// matched once, in `place_move`.
+
 // WALK below the key: past a removed row c moves alone, else p and n come along.
 #[tactic(auto, unfolding(crate::specs::Moves::onward_of))]
 fn onward(columns: &Columns<'_>, party: Party, call: Call, wanted: u32) -> Moved

@@ -38,6 +38,8 @@ pub struct Values {
 }
 
 // A party record: its place, the values of the place, and its own row.
+// The values stand in it by name and not as `Values`, and the flag beside own, since the theorems of grown lists
+// (`list_grown`) speak of them so.
 #[derive(Clone, Copy)]
 pub struct Party {
     pub place: Place,

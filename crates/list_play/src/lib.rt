@@ -3,6 +3,7 @@
 
 ghost use Rattle.std.specs.Prelude.{◌≡◌};
 ghost use Rattle.refusal.specs.Answer.{left};
+ghost use Rattle.calls.specs.Calls.{code_of};
 ghost use Rattle.calls.specs.Words.{reply_is};
 ghost use Rattle.list_rows.specs.Table.{SameColumns};
 ghost use Rattle.list_unchecked.specs.Unchecked.{machine_of};
@@ -11,7 +12,7 @@ ghost use Rattle.field.specs.Field.{load_of};
 ghost use Rattle.field.specs.Readings.{loaded_is};
 ghost use Rattle.list_play.specs.Play.{plain_event, field_in, party_in, loaded, line_of};
 
-use calls::Said;
+use calls::{Call, Said};
 use list::{call_asks, move_asks};
 use list_unchecked::Engine;
 use refusal::Refusal;
@@ -19,12 +20,13 @@ use script::{CallLine, Line};
 
 // Starts a call of a party.
 #[tactic(auto, unfolding(crate::specs::Play::plain_event))]
-fn plain_call(engine: &mut Engine<'_>, party: u32, code: u32, wanted: u32) -> Result<Said, Refusal>
+fn plain_call(engine: &mut Engine<'_>, party: u32, call: Call, wanted: u32) -> Result<Said, Refusal>
     ensures leaves { left (machine_of engine.new) (reply_is result)
-        ≡ plain_event (machine_of engine.old) (calls party code wanted) }
+        ≡ plain_event (machine_of engine.old) (calls party (code_of call) wanted) }
     ensures lent { SameColumns engine.old.columns engine.new.columns }
 {
-    let call = call_asks(&engine.state, engine.columns.kind.len(), party, code)?;
+    let rows = engine.columns.kind.len();
+    let call = call_asks(&engine.state, rows, party, u32::from(call.code()))?;
     engine.call_unchecked(party, call, wanted);
     Ok(Said::Nothing)
 }
@@ -40,7 +42,7 @@ fn plain_move(engine: &mut Engine<'_>, party: u32) -> Result<Said, Refusal>
     Ok(engine.step_unchecked(party))
 }
 
-// The key in the field of a line.
+// The key in the field of a line. The order is a code, as `load` takes it, here and in all that leads to it.
 #[tactic(auto, using(crate::proofs::Four::four_whole))]
 fn load_field(line: CallLine, order: u32) -> Result<u32, Refusal>
     ensures { loaded_is result ≡ load_of (field_in line) 0 order }
@@ -57,7 +59,7 @@ fn play_call(engine: &mut Engine<'_>, order: u32, line: CallLine) -> Result<Said
     ensures lent { SameColumns engine.old.columns engine.new.columns }
 {
     let wanted = load_field(line, order)?;
-    plain_call(engine, line.party, u32::from(line.call.code()), wanted)
+    plain_call(engine, line.party, line.call, wanted)
 }
 
 // The party that a line names; where it names none, 0.

@@ -20,7 +20,8 @@ ghost use Rattle.list_rows.specs.Writes.{written};
 
 use columns::{read, write};
 
-// The kinds of rows, as they stand in the column of kinds. A lent column may hold any other byte too.
+// The kinds of rows, as they stand in the column of kinds. They are numbers and no enum, since a lent column may hold
+// any other byte too, which good form has to compare with them.
 pub const UNUSED: u8 = 0;
 
 pub const END: u8 = 1;
@@ -30,6 +31,7 @@ pub const ITEM: u8 = 2;
 pub const SPLICE: u8 = 3;
 
 // The four columns lent to be read. They may have any lengths; past its end a column reads as 0.
+// Document 01 asks for four lent columns: so they are slices side by side, and rows are numbers.
 #[derive(Clone, Copy)]
 pub struct Columns<'a> {
     pub kind: &'a [u8],

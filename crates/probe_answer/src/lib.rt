@@ -35,7 +35,8 @@ use probe_layout::{
 };
 use refusal::Refusal;
 
-// What a question has found: a refusal's number or 0, the answer, how many keys were listed.
+// What a question has found: a refusal's number or 0, the answer, how many keys were listed. They are numbers because
+// they are the first bytes of the probe's output.
 #[derive(Clone, Copy)]
 struct Found {
     number: u8,

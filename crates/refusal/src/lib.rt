@@ -32,7 +32,7 @@ pub enum Refusal {
 }
 
 impl Refusal {
-    // The number by which users know the refusal.
+    // The number by which users know the refusal. (By name: `u8::from(why)` would not say which number is meant.)
     pub fn number(self) -> u8
         ensures { result ≡ number_of self }
     {
