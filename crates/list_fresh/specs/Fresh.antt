@@ -1,11 +1,15 @@
 -- What set-up lays down in the columns (document 01, "Rows and parties", first paragraph).
-use Rattle.std.specs.Prelude.{List, ℕ, length}
-use Rattle.columns.specs.Column.{put, zeros}
+use Rattle.std.specs.Prelude.{List, ℕ, length, set}
+use Rattle.columns.specs.Column.{zeros}
 use Rattle.list_rows.specs.Table.{Table, tab, head, head_nxt, tail, tail_nxt}
 
 -- a column with four entries for the end rows, in their order
+abbrev pub laid : {A : Type 0} → List A → (a b c d : A) → List A
+laid column a b c d = set (set (set (set column head a) head_nxt b) tail c) tail_nxt d
+
+-- the same of numbers
 abbrev pub ends : List ℕ → (a b c d : ℕ) → List ℕ
-ends column a b c d = put (put (put (put column head a) head_nxt b) tail c) tail_nxt d
+ends column a b c d = laid column a b c d
 
 -- columns of these lengths: the end rows have kind 1 and follow each other, the last one itself; all else is 0
 abbrev pub fresh_columns : (kinds keys nexts backs : ℕ) → Table

@@ -27,7 +27,7 @@ ghost use Rattle.list_moves.specs.Moves.{
   move_at,
 };
 
-use calls::{Access, Call, Said};
+use calls::{Access, Asked, Call, Said};
 use list_party::{Party, Place, Values};
 use list_rows::{Columns, Row, Write};
 
@@ -102,8 +102,8 @@ fn try_swap(columns: &Columns<'_>, what: Swap, won: Party, said: Said, lost: Par
 
 // The own row is linked to where the walk has ended, and the swap comes next.
 #[tactic(auto, unfolding(crate::specs::Moves::prepare_of))]
-fn prepare(party: Party, call: Call, wanted: u32) -> Moved
-    ensures { result ≡ prepare_of party call wanted }
+fn prepare(party: Party, asked: Asked) -> Moved
+    ensures { result ≡ prepare_of party asked.call asked.key }
 {
     let kept = Values {
         p: party.p,
@@ -111,16 +111,16 @@ fn prepare(party: Party, call: Call, wanted: u32) -> Moved
         ..Values::NONE
     };
     let link = Write::Link(party.own, party.c);
-    readies(party.goes_to(Place::AddSwap(call, wanted), kept), link)
+    readies(
+        party.goes_to(Place::AddSwap(asked.call, asked.key), kept),
+        link,
+    )
 }
-
-// In each of these the call and the key go beside the party: its place carries them, as document 01 asks, and is
-// matched once, in `place_move`.
 
 // WALK below the key: past a removed row c moves alone, else p and n come along.
 #[tactic(auto, unfolding(crate::specs::Moves::onward_of))]
-fn onward(columns: &Columns<'_>, party: Party, call: Call, wanted: u32) -> Moved
-    ensures { result ≡ onward_of (table_of columns.now) party call wanted }
+fn onward(columns: &Columns<'_>, party: Party, asked: Asked) -> Moved
+    ensures { result ≡ onward_of (table_of columns.now) party asked.call asked.key }
 {
     let s = columns.next_at(party.c);
     if Row(s).is_splice(columns) {
@@ -132,7 +132,7 @@ fn onward(columns: &Columns<'_>, party: Party, call: Call, wanted: u32) -> Moved
             r: party.r,
             ..Values::NONE
         };
-        return goes_on(party.goes_to(Place::Walk(call, wanted), past));
+        return goes_on(party.goes_to(Place::Walk(asked.call, asked.key), past));
     }
     let on = Values {
         p: party.c,
@@ -141,7 +141,7 @@ fn onward(columns: &Columns<'_>, party: Party, call: Call, wanted: u32) -> Moved
         r: party.r,
         ..Values::NONE
     };
-    goes_on(party.goes_to(Place::Walk(call, wanted), on))
+    goes_on(party.goes_to(Place::Walk(asked.call, asked.key), on))
 }
 
 // An ADD that has landed.
@@ -163,7 +163,11 @@ fn landed_add(columns: &Columns<'_>, party: Party, wanted: u32) -> Moved
     if Row(party.c).equals_key(columns, wanted) {
         return answers(party, Said::No);
     }
-    prepare(party, Call::Add, wanted)
+    let asked = Asked {
+        call: Call::Add,
+        key: wanted,
+    };
+    prepare(party, asked)
 }
 
 // A REMOVE that is not yet marked has landed.
@@ -234,23 +238,23 @@ fn landed_contains(columns: &Columns<'_>, party: Party, wanted: u32) -> Moved
 
 // WALK: one row on while c is below the key; else c has landed, and the call says what that means.
 #[tactic(auto, unfolding(crate::specs::Moves::walk_of))]
-fn walk(columns: &Columns<'_>, party: Party, call: Call, wanted: u32) -> Moved
-    ensures { result ≡ walk_of (table_of columns.now) party call wanted }
+fn walk(columns: &Columns<'_>, party: Party, asked: Asked) -> Moved
+    ensures { result ≡ walk_of (table_of columns.now) party asked.call asked.key }
 {
-    if Row(party.c).below_key(columns, wanted) {
-        return onward(columns, party, call, wanted);
+    if Row(party.c).below_key(columns, asked.key) {
+        return onward(columns, party, asked);
     }
-    match call {
-        Call::Add => landed_add(columns, party, wanted),
-        Call::Remove => landed_remove(columns, party, wanted),
-        Call::Contains => landed_contains(columns, party, wanted),
+    match asked.call {
+        Call::Add => landed_add(columns, party, asked.key),
+        Call::Remove => landed_remove(columns, party, asked.key),
+        Call::Contains => landed_contains(columns, party, asked.key),
     }
 }
 
 // SKIP: past removed rows, without another look at the key.
 #[tactic(auto, unfolding(crate::specs::Moves::skip_of))]
-fn skip(columns: &Columns<'_>, party: Party, call: Call, wanted: u32) -> Moved
-    ensures { result ≡ skip_of (table_of columns.now) party call wanted }
+fn skip(columns: &Columns<'_>, party: Party, asked: Asked) -> Moved
+    ensures { result ≡ skip_of (table_of columns.now) party asked.call asked.key }
 {
     let s = columns.next_at(party.c);
     if Row(s).is_splice(columns) {
@@ -261,15 +265,15 @@ fn skip(columns: &Columns<'_>, party: Party, call: Call, wanted: u32) -> Moved
             c: beyond,
             ..Values::NONE
         };
-        return goes_on(party.goes_to(Place::Skip(call, wanted), past));
+        return goes_on(party.goes_to(Place::Skip(asked.call, asked.key), past));
     }
-    prepare(party, call, wanted)
+    prepare(party, asked)
 }
 
 // ADDSWAP: the own row goes in behind p, unless something else than n stands there by now.
 #[tactic(auto, unfolding(crate::specs::Moves::add_swap_of))]
-fn add_swap(columns: &Columns<'_>, party: Party, call: Call, wanted: u32) -> Moved
-    ensures { result ≡ add_swap_of (table_of columns.now) party call wanted }
+fn add_swap(columns: &Columns<'_>, party: Party, asked: Asked) -> Moved
+    ensures { result ≡ add_swap_of (table_of columns.now) party asked.call asked.key }
 {
     let what = Swap {
         row: party.p,
@@ -282,14 +286,14 @@ fn add_swap(columns: &Columns<'_>, party: Party, call: Call, wanted: u32) -> Mov
         ..Values::NONE
     };
     let won = party.published().idling();
-    let lost = party.goes_to(Place::Back(call, wanted), kept);
+    let lost = party.goes_to(Place::Back(asked.call, asked.key), kept);
     try_swap(columns, what, won, Said::Yes, lost)
 }
 
 // MARK: the own splice goes in behind c, which removes c, unless something else stands there by now.
 #[tactic(auto, unfolding(crate::specs::Moves::mark_of))]
-fn mark(columns: &Columns<'_>, party: Party, call: Call, wanted: u32) -> Moved
-    ensures { result ≡ mark_of (table_of columns.now) party call wanted }
+fn mark(columns: &Columns<'_>, party: Party, asked: Asked) -> Moved
+    ensures { result ≡ mark_of (table_of columns.now) party asked.call asked.key }
 {
     let what = Swap {
         row: party.c,
@@ -308,15 +312,17 @@ fn mark(columns: &Columns<'_>, party: Party, call: Call, wanted: u32) -> Moved
         c: party.c,
         ..Values::NONE
     };
-    let won = party.published().goes_to(Place::Clean(call, wanted), then);
-    let lost = party.goes_to(Place::Reread(call, wanted), kept);
+    let won = party
+        .published()
+        .goes_to(Place::Clean(asked.call, asked.key), then);
+    let lost = party.goes_to(Place::Reread(asked.call, asked.key), kept);
     try_swap(columns, what, won, Said::Nothing, lost)
 }
 
 // REREAD: a splice behind c means that another party was first; else the own splice is led to what stands there now.
 #[tactic(auto, unfolding(crate::specs::Moves::reread_of))]
-fn reread(columns: &Columns<'_>, party: Party, call: Call, wanted: u32) -> Moved
-    ensures { result ≡ reread_of (table_of columns.now) party call wanted }
+fn reread(columns: &Columns<'_>, party: Party, asked: Asked) -> Moved
+    ensures { result ≡ reread_of (table_of columns.now) party asked.call asked.key }
 {
     let s = columns.next_at(party.c);
     if Row(s).is_splice(columns) {
@@ -330,13 +336,16 @@ fn reread(columns: &Columns<'_>, party: Party, call: Call, wanted: u32) -> Moved
         ..Values::NONE
     };
     let link = Write::Link(party.own, s);
-    readies(party.goes_to(Place::Mark(call, wanted), kept), link)
+    readies(
+        party.goes_to(Place::Mark(asked.call, asked.key), kept),
+        link,
+    )
 }
 
 // CLEAN: p is led past the removed rows, unless something else stands behind p by now.
 #[tactic(auto, unfolding(crate::specs::Moves::clean_of))]
-fn clean(columns: &Columns<'_>, party: Party, call: Call, wanted: u32) -> Moved
-    ensures { result ≡ clean_of (table_of columns.now) party call wanted }
+fn clean(columns: &Columns<'_>, party: Party, asked: Asked) -> Moved
+    ensures { result ≡ clean_of (table_of columns.now) party asked.call asked.key }
 {
     let what = Swap {
         row: party.p,
@@ -348,14 +357,14 @@ fn clean(columns: &Columns<'_>, party: Party, call: Call, wanted: u32) -> Moved
         r: party.r,
         ..Values::NONE
     };
-    let lost = party.goes_to(Place::Back(call, wanted), kept);
+    let lost = party.goes_to(Place::Back(asked.call, asked.key), kept);
     try_swap(columns, what, party.idling(), Said::Yes, lost)
 }
 
 // BACK: from a removed p to the row that its splice names, and stay; from any other p the walk starts again.
 #[tactic(auto, unfolding(crate::specs::Moves::back_of))]
-fn go_back(columns: &Columns<'_>, party: Party, call: Call, wanted: u32) -> Moved
-    ensures { result ≡ back_of (table_of columns.now) party call wanted }
+fn go_back(columns: &Columns<'_>, party: Party, asked: Asked) -> Moved
+    ensures { result ≡ back_of (table_of columns.now) party asked.call asked.key }
 {
     let n = columns.next_at(party.p);
     if Row(n).is_splice(columns) {
@@ -365,7 +374,7 @@ fn go_back(columns: &Columns<'_>, party: Party, call: Call, wanted: u32) -> Move
             r: party.r,
             ..Values::NONE
         };
-        return goes_on(party.goes_to(Place::Back(call, wanted), kept));
+        return goes_on(party.goes_to(Place::Back(asked.call, asked.key), kept));
     }
     let again = Values {
         p: party.p,
@@ -374,13 +383,13 @@ fn go_back(columns: &Columns<'_>, party: Party, call: Call, wanted: u32) -> Move
         r: party.r,
         ..Values::NONE
     };
-    goes_on(party.goes_to(Place::Walk(call, wanted), again))
+    goes_on(party.goes_to(Place::Walk(asked.call, asked.key), again))
 }
 
 // LOOK below the key: one row on, through a splice.
 #[tactic(auto, unfolding(crate::specs::Moves::look_on_of))]
-fn look_on(columns: &Columns<'_>, party: Party, call: Call, wanted: u32) -> Moved
-    ensures { result ≡ look_on_of (table_of columns.now) party call wanted }
+fn look_on(columns: &Columns<'_>, party: Party, asked: Asked) -> Moved
+    ensures { result ≡ look_on_of (table_of columns.now) party asked.call asked.key }
 {
     let s = columns.next_at(party.c);
     if Row(s).is_splice(columns) {
@@ -389,45 +398,45 @@ fn look_on(columns: &Columns<'_>, party: Party, call: Call, wanted: u32) -> Move
             c: beyond,
             ..Values::NONE
         };
-        return goes_on(party.goes_to(Place::Look(call, wanted), past));
+        return goes_on(party.goes_to(Place::Look(asked.call, asked.key), past));
     }
     let on = Values {
         c: s,
         ..Values::NONE
     };
-    goes_on(party.goes_to(Place::Look(call, wanted), on))
+    goes_on(party.goes_to(Place::Look(asked.call, asked.key), on))
 }
 
 // LOOK: on while c is below the key; else c has landed.
 #[tactic(auto, unfolding(crate::specs::Moves::look_of))]
-fn look(columns: &Columns<'_>, party: Party, call: Call, wanted: u32) -> Moved
-    ensures { result ≡ look_of (table_of columns.now) party call wanted }
+fn look(columns: &Columns<'_>, party: Party, asked: Asked) -> Moved
+    ensures { result ≡ look_of (table_of columns.now) party asked.call asked.key }
 {
-    if Row(party.c).below_key(columns, wanted) {
-        return look_on(columns, party, call, wanted);
+    if Row(party.c).below_key(columns, asked.key) {
+        return look_on(columns, party, asked);
     }
-    landed_contains(columns, party, wanted)
+    landed_contains(columns, party, asked.key)
 }
 
 // The move of a party at its place; an idle one makes no access. Nothing is tested or refused.
 pub fn place_move(columns: &Columns<'_>, party: Party) -> Moved
     ensures { result ≡ move_at party.place (table_of columns.now) party }
 {
-    let place = party.place;
-    match place {
+    let asked = party.place.asked();
+    match party.place {
         Place::Idle => Moved {
             party,
             said: Said::Nothing,
             access: Access::None,
             write: Write::Untouched,
         },
-        Place::Walk(call, wanted) => walk(columns, party, call, wanted),
-        Place::Skip(call, wanted) => skip(columns, party, call, wanted),
-        Place::AddSwap(call, wanted) => add_swap(columns, party, call, wanted),
-        Place::Mark(call, wanted) => mark(columns, party, call, wanted),
-        Place::Reread(call, wanted) => reread(columns, party, call, wanted),
-        Place::Clean(call, wanted) => clean(columns, party, call, wanted),
-        Place::Back(call, wanted) => go_back(columns, party, call, wanted),
-        Place::Look(call, wanted) => look(columns, party, call, wanted),
+        Place::Walk(..) => walk(columns, party, asked),
+        Place::Skip(..) => skip(columns, party, asked),
+        Place::AddSwap(..) => add_swap(columns, party, asked),
+        Place::Mark(..) => mark(columns, party, asked),
+        Place::Reread(..) => reread(columns, party, asked),
+        Place::Clean(..) => clean(columns, party, asked),
+        Place::Back(..) => go_back(columns, party, asked),
+        Place::Look(..) => look(columns, party, asked),
     }
 }

@@ -13,7 +13,9 @@ use Rattle.list_rows.proofs.Row.below_key.Reads as below_key
 use Rattle.list_rows.proofs.Row.equals_key.Reads as equals_key
 use Rattle.list_rows.proofs.ColumnsMut.view.Reads as view
 use Rattle.list_rows.proofs.ColumnsMut.apply.Reads as apply
-use Rattle.list_rows.specs.Table.{table_of, table_held}
+use Rattle.std.specs.Borrow.{GName}
+use Rattle.list_rows.proofs.Lent.{names, one_lent}
+use Rattle.list_rows.specs.Table.{Table, table_of, table_held}
 
 pub kind_at_fixed : OneOutcome kind_at.Post (λ κs answer exit. answer)
 kind_at_fixed κs given answer₁ answer₂ exit₁ exit₂ = by_equation
@@ -46,6 +48,7 @@ equals_key_fixed κs given answer₁ answer₂ exit₁ exit₂ = by_equation
 pub view_fixed : OneOutcome view.Post (λ κs answer exit. table_of answer)
 view_fixed κs given answer₁ answer₂ exit₁ exit₂ = by_equation
 
--- the four columns after a write, as one table
-pub apply_fixed : OneOutcome apply.Post (λ κs answer exit. table_held exit.0.now)
-apply_fixed κs given answer₁ answer₂ exit₁ exit₂ first second = by_equation first.0 second.0
+-- the four columns after a write, as one table, and whose they are
+pub apply_fixed : OneOutcome {Seen = Table × (GName × GName × GName × GName)} apply.Post
+    (λ κs answer exit. (table_held exit.0.now, names exit.0.now))
+apply_fixed κs given answer₁ answer₂ exit₁ exit₂ first second = one_lent first.0 second.0 first.1 second.1

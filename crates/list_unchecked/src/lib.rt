@@ -17,7 +17,7 @@ ghost use Rattle.list_unchecked.specs.Unchecked.{
   unchecked_move,
 };
 
-use calls::{Call, Said};
+use calls::{Asked, Call, Said};
 use list_moves::place_move;
 use list_party::{Party, Place, State, Values, one_taken};
 use list_rows::{ColumnsMut, Row, Write};
@@ -60,8 +60,8 @@ fn taken_then(state: &State, party: Party) -> u16
 }
 
 // An ADD or a REMOVE at its start, between rows 0 and 1, with its own row.
-fn starting(call: Call, wanted: u32, own: u16) -> Party
-    ensures { result ≡ starting call wanted own }
+fn starting(asked: Asked, own: u16) -> Party
+    ensures { result ≡ starting asked.call asked.key own }
 {
     let first = Values {
         p: Row::HEAD.0,
@@ -74,17 +74,17 @@ fn starting(call: Call, wanted: u32, own: u16) -> Party
         unpublished: true,
         ..Party::blank()
     };
-    with_own.goes_to(Place::Walk(call, wanted), first)
+    with_own.goes_to(Place::Walk(asked.call, asked.key), first)
 }
 
 // An ADD or a REMOVE starts.
-fn start(state: &State, party: Party, call: Call, wanted: u32) -> Begun
-    ensures { result ≡ start_of state.now party call wanted }
+fn start(state: &State, party: Party, asked: Asked) -> Begun
+    ensures { result ≡ start_of state.now party asked.call asked.key }
 {
     let own = own_row(state, party);
     Begun {
-        party: starting(call, wanted, own),
-        write: Write::Item(own, wanted),
+        party: starting(asked, own),
+        write: Write::Item(own, asked.key),
         taken: taken_then(state, party),
     }
 }
@@ -107,12 +107,12 @@ fn look(state: &State, party: Party, wanted: u32) -> Begun
 
 // A call starts.
 #[tactic(auto, unfolding(crate::specs::Unchecked::begun_of))]
-fn begin(state: &State, party: Party, call: Call, wanted: u32) -> Begun
-    ensures { result ≡ begun_of state.now party call wanted }
+fn begin(state: &State, party: Party, asked: Asked) -> Begun
+    ensures { result ≡ begun_of state.now party asked.call asked.key }
 {
-    match call {
-        Call::Add | Call::Remove => start(state, party, call, wanted),
-        Call::Contains => look(state, party, wanted),
+    match asked.call {
+        Call::Add | Call::Remove => start(state, party, asked),
+        Call::Contains => look(state, party, asked.key),
     }
 }
 
@@ -124,7 +124,8 @@ impl Engine<'_> {
         ensures called { machine_of self.new ≡ unchecked_call (machine_of self.old) number call wanted }
         ensures lent { SameColumns self.old.columns self.new.columns }
     {
-        let begun = begin(&self.state, self.state.party_at(number), call, wanted);
+        let asked = Asked { call, key: wanted };
+        let begun = begin(&self.state, self.state.party_at(number), asked);
         self.columns.apply(begun.write);
         self.state.put_party(number, begun.party);
         self.state.put_taken(begun.taken);

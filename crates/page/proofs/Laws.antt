@@ -17,6 +17,10 @@ pub put_nothing : (p : Page) → put p [] ≡ p
 unfolding put
 put_nothing p = refl
 
+-- a text, and then another
+pub on : {p q r : Page} {a b : List ℕ} → Wrote p a q → Wrote q b r → Wrote p (a ++ b) r
+on {p} {q} {r} {a} {b} e f = record { path = f.path ∙ ap (λ (x : Page). put x b) e.path ∙ put_put p a b }
+
 -- one byte more of a text
 pub put_more : (p : Page) (text : List ℕ) (i : ℕ) → i < length text → put p (take (i + 1) text) ≡ put (put p (take i text)) (get_or text i 0 ∷ [])
 put_more p text i h = rw (add-one i, take-suc text i 0 h) (sym (put_put p _ _))

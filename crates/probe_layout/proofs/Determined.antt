@@ -2,7 +2,10 @@
 -- Assumes nothing.
 use Rattle.logic.specs.Outcome.{OneOutcome}
 use Rattle.logic.proofs.Outcome.{by_equation}
-use Rattle.list_rows.specs.Table.{table_held}
+use Rattle.std.specs.Borrow.{GName}
+use Rattle.list_rows.proofs.Lent as columns
+use Rattle.list_rows.proofs.Lent.{names}
+use Rattle.list_rows.specs.Table.{Table, table_held}
 use Rattle.page.proofs.Determined.{held, one_lent}
 use Rattle.probe_layout.proofs.question_in.Reads as question_in
 use Rattle.probe_layout.proofs.read.fits.Reads as fits
@@ -23,9 +26,10 @@ fits_fixed κs given answer₁ answer₂ exit₁ exit₂ = by_equation
 pub state_in_fixed : OneOutcome state_in.Post (λ κs answer exit. answer)
 state_in_fixed κs given answer₁ answer₂ exit₁ exit₂ = by_equation
 
--- the four columns
-pub read_table_fixed : OneOutcome read_table.Post (λ κs answer exit. table_held exit.1.0.now)
-read_table_fixed κs given answer₁ answer₂ exit₁ exit₂ first second = by_equation first.0 second.0
+-- the four columns, and whose they are
+pub read_table_fixed : OneOutcome {Seen = Table × (GName × GName × GName × GName)} read_table.Post
+    (λ κs answer exit. (table_held exit.1.0.now, names exit.1.0.now))
+read_table_fixed κs given answer₁ answer₂ exit₁ exit₂ first second = columns.one_lent first.0 second.0 first.1 second.1
 
 -- ---- what is put on a page: the page once it is there
 
