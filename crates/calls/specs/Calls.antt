@@ -13,16 +13,16 @@ code_of Add = 0
 code_of Remove = 1
 code_of Contains = 2
 
--- the call of a code; one over 2, which the entry points refuse before they name it, gives CONTAINS
+-- the call of a code; one over 2, which the entry points refuse first, gives CONTAINS
 abbrev pub call_named : ℕ → Call
 call_named zero = Add
 call_named (suc zero) = Remove
 call_named (suc (suc more)) = Contains
 
--- what a code is taken for: its call, or 6 for one over 2
+-- the answer to a code: its call, or 6 for one over 2
 abbrev pub CallOfCode : ℕ → Result Call Refusal → Type 0
-CallOfCode code taken =
-    answer_is (λ call. call) taken ≡ answering (refusing (ltb 2 code) 6 passed) (accepted (call_named code))
+CallOfCode code answer =
+    answer_is (λ call. call) answer ≡ answering (refusing (ltb 2 code) 6 passed) (accepted (call_named code))
 
 -- the name of a call in schedules and their outputs
 abbrev pub name_of : Call → List ℕ

@@ -1,4 +1,4 @@
-// The words of calls and answers: calls by code, what a move says, what came of an access, replies, the tallies.
+// The words of calls and answers: calls by code, what a move says, what came of an access, the tallies.
 #![tactic(auto)]
 
 ghost use Rattle.std.specs.Prelude.{◌≡◌};
@@ -64,8 +64,8 @@ impl TryFrom<u32> for Call {
 }
 
 impl Call {
-    // The call of a code. Refuses nothing: a code over 2 gives CONTAINS here; the entry points refuse it (6) before.
-    // It stands beside `try_from` because it cannot fail: the probe reads a party record from any bytes.
+    // The call of a code in a party record. It cannot fail, and a code over 2 gives CONTAINS, as `record_at` of
+    // `probe_layout` has it. The entry points use `try_from`.
     pub fn named(code: u32) -> Call
         ensures { result ≡ call_named code }
     {

@@ -34,10 +34,10 @@ order_of (suc code) = LowFirst
 abbrev pub no_such_order : ℕ → Bool
 no_such_order code = ltb 1 code
 
--- what a code is taken for: its order, or 11
+-- the answer to a code: its order, or 11
 abbrev pub OrderOfCode : ℕ → Result ByteOrder Refusal → Type 0
-OrderOfCode code taken =
-    answer_is (λ order. order) taken ≡ answering (refusing (no_such_order code) 11 passed) (accepted (order_of code))
+OrderOfCode code answer =
+    answer_is (λ order. order) answer ≡ answering (refusing (no_such_order code) 11 passed) (accepted (order_of code))
 
 -- 10: part of the field, or all of it, lies past the end of its record, which has this length
 abbrev pub runs_past : ℕ → ℕ → Bool

@@ -93,7 +93,7 @@ fn put_four(bytes: &mut [u8], place: usize, four: [u8; 4])
 }
 
 // Whether a field at a place runs past the end of a record of this length.
-// The length is taken down, so that no sum can wrap.
+// 4 is taken from the length, so that no sum can wrap.
 fn runs_past(len: usize, place: usize) -> bool
     ensures { result ≡ runs_past len place }
 {

@@ -13,7 +13,7 @@ use Rattle.list_form.specs.Form.{
   kind_fits,
   key_fits,
   link_fits,
-  rows_pass,
+  all_pass,
   kinds_fit,
   keys_fit,
   links_fit,
@@ -21,21 +21,21 @@ use Rattle.list_form.specs.Form.{
   parties_fit,
 }
 
-pub kinds_passed : (kind : List ℕ) (taken : ℕ) → rows_pass (kind_fits taken) kind ≡ kinds_fit kind taken
+pub kinds_passed : (kind : List ℕ) (taken : ℕ) → all_pass (kind_fits taken) kind ≡ kinds_fit kind taken
 unfolding kinds_fit
 kinds_passed kind taken = every_listed (kind_fits taken) kind 0
 
-pub keys_passed : (key : List ℕ) (taken : ℕ) → rows_pass (key_fits taken) key ≡ keys_fit key taken
+pub keys_passed : (key : List ℕ) (taken : ℕ) → all_pass (key_fits taken) key ≡ keys_fit key taken
 unfolding keys_fit
 keys_passed key taken = every_listed (key_fits taken) key 0
 
-pub links_passed : (links : List ℕ) (taken : ℕ) → rows_pass (link_fits taken) links ≡ links_fit links taken
+pub links_passed : (links : List ℕ) (taken : ℕ) → all_pass (link_fits taken) links ≡ links_fit links taken
 unfolding links_fit
 links_passed links taken = every_listed (link_fits taken) links 0
 
 pub ruleset rows_passed = (kinds_passed, keys_passed, links_passed)
 
-pub parties_passed : (st : State) → length st.parties ≡ 16 → rows_pass (party_fits st.taken st.count) st.parties ≡ parties_fit st
+pub parties_passed : (st : State) → length st.parties ≡ 16 → all_pass (party_fits st.taken st.count) st.parties ≡ parties_fit st
 unfolding parties_fit
 parties_passed st sixteen =
     every_listed (party_fits st.taken st.count) st.parties blank ∙ ap (every (λ i. party_fits st.taken st.count i (party_at st i))) sixteen

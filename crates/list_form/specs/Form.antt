@@ -44,9 +44,9 @@ key_fits taken row key = ltb row taken || eqb key 0
 abbrev pub link_fits : (taken row to : ℕ) → Bool
 link_fits taken row to = cond (ltb row taken) (ltb to taken) (eqb to 0)
 
--- one entry after another with its place, from the first on
-abbrev pub rows_pass : {A : Type 0} → (fits : ℕ → A → Bool) → List A → Bool
-rows_pass fits column = list_all (λ entry. fits entry.0 entry.1) (enumerate_from 0 column)
+-- of each entry, with its place, from the first on
+abbrev pub all_pass : {A : Type 0} → (fits : ℕ → A → Bool) → List A → Bool
+all_pass fits column = list_all (λ entry. fits entry.0 entry.1) (enumerate_from 0 column)
 
 unfoldable pub kinds_fit : List ℕ → (taken : ℕ) → Bool
 kinds_fit kind taken = every (λ row. kind_fits taken row (at kind row)) (length kind)

@@ -10,7 +10,7 @@ ghost use Rattle.list_form.specs.Form.{
   kind_fits,
   key_fits,
   link_fits,
-  rows_pass,
+  all_pass,
   good_rows,
   rows_below,
   kept_at,
@@ -135,7 +135,7 @@ fn link_fits(taken: usize, row: usize, to: u16) -> bool
 
 // Whether all kinds fit.
 fn kinds_fit(kind: &[u8], taken: u16) -> bool
-    ensures { result ≡ rows_pass (kind_fits taken) kind.now }
+    ensures { result ≡ all_pass (kind_fits taken) kind.now }
 {
     kind.iter()
         .enumerate()
@@ -144,7 +144,7 @@ fn kinds_fit(kind: &[u8], taken: u16) -> bool
 
 // Whether all keys fit.
 fn keys_fit(key: &[u32], taken: u16) -> bool
-    ensures { result ≡ rows_pass (key_fits taken) key.now }
+    ensures { result ≡ all_pass (key_fits taken) key.now }
 {
     key.iter()
         .enumerate()
@@ -153,7 +153,7 @@ fn keys_fit(key: &[u32], taken: u16) -> bool
 
 // Whether all nexts, or all backs, fit.
 fn links_fit(links: &[u16], taken: u16) -> bool
-    ensures { result ≡ rows_pass (link_fits taken) links.now }
+    ensures { result ≡ all_pass (link_fits taken) links.now }
 {
     links
         .iter()
@@ -263,7 +263,7 @@ fn party_fits(taken: u16, count: u8, i: usize, party: Party) -> bool
 
 // Whether each record fits.
 fn records_fit(parties: &[Party], taken: u16, count: u8) -> bool
-    ensures { result ≡ rows_pass (party_fits taken count) parties.now }
+    ensures { result ≡ all_pass (party_fits taken count) parties.now }
 {
     parties
         .iter()

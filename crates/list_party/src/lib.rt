@@ -172,7 +172,7 @@ pub fn one_taken(taken: u16) -> u16
     taken.saturating_add(1)
 }
 
-// Nor does one of these. A state is changed where it stands.
+// These too test and refuse nothing. A state is changed where it stands.
 impl State {
     // So many parties at rest and so many rows taken, nothing counted yet. Of no party and no row: what a program has
     // before its set-up.

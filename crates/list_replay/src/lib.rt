@@ -90,6 +90,7 @@ fn run_new(text: &[u8], head: Head, page: &mut Page<'_>)
         columns,
         state: State::resting(0, 0),
     };
+    // With a good head a set-up is never refused.
     let _ = set_up(&mut engine, head.parties);
     run_body(text, head, &mut engine, page);
 }

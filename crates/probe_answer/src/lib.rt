@@ -31,7 +31,7 @@ use list_rows::{Columns, ColumnsMut};
 use list_unchecked::Engine;
 use page::Page;
 use probe_layout::{
-    Question, fits, put_machine, put_row, put_two, question_in, read_table, state_in,
+    Question, fits, put_all, put_machine, put_two, question_in, read_table, state_in,
 };
 use refusal::Refusal;
 
@@ -124,7 +124,7 @@ fn put_seen(page: &mut Page<'_>, found: Found, places: &[u32], columns: &Columns
     page.put_byte(found.number);
     page.put_byte(found.answer);
     put_two(page, found.listed);
-    put_row(page, places);
+    put_all(page, places);
     put_machine(page, columns, state);
 }
 
@@ -152,10 +152,10 @@ fn ask_new(bytes: &[u8], page: &mut Page<'_>)
     let mut places = [4008636142u32; 4200];
     let asked = question_in(bytes);
     let columns = ColumnsMut {
-        kind: &mut kind[..asked.kinds as usize],
-        key: &mut key[..asked.keys as usize],
-        next: &mut next[..asked.nexts as usize],
-        back: &mut back[..asked.backs as usize],
+        kind: &mut kind[..usize::from(asked.kinds)],
+        key: &mut key[..usize::from(asked.keys)],
+        next: &mut next[..usize::from(asked.nexts)],
+        back: &mut back[..usize::from(asked.backs)],
     };
     let mut engine = Engine {
         columns,
@@ -164,7 +164,7 @@ fn ask_new(bytes: &[u8], page: &mut Page<'_>)
     ask_in(
         bytes,
         &mut engine,
-        &mut places[..asked.places as usize],
+        &mut places[..usize::from(asked.places)],
         page,
     );
 }

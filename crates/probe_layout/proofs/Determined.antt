@@ -12,7 +12,7 @@ use Rattle.probe_layout.proofs.read.fits.Reads as fits
 use Rattle.probe_layout.proofs.read.state_in.Reads as state_in
 use Rattle.probe_layout.proofs.read.read_table.Reads as read_table
 use Rattle.probe_layout.proofs.write.put_two.Reads as put_two
-use Rattle.probe_layout.proofs.bytes.put_row.Reads as put_row
+use Rattle.probe_layout.proofs.bytes.put_all.Reads as put_all
 use Rattle.probe_layout.proofs.write.put_machine.Reads as put_machine
 
 -- ---- what is read
@@ -37,9 +37,9 @@ pub put_two_fixed : OneOutcome put_two.Post (λ κs answer exit. held exit.0.now
 put_two_fixed κs given answer₁ answer₂ exit₁ exit₂ = one_lent
 
 -- of a row of anything that stands in bytes
-pub put_row_fixed : (T : _) (laws : _) (copy : _) (entry : _) (entries : _) (clone : _) (clones : _) →
-    OneOutcome (put_row.Post T laws copy entry entries clone clones) (λ κs answer exit. held exit.0.now)
-put_row_fixed T laws copy entry entries clone clones κs given answer₁ answer₂ exit₁ exit₂ = one_lent
+pub put_all_fixed : (T : _) (laws : _) (copy : _) (entry : _) (entries : _) (clone : _) (clones : _) →
+    OneOutcome (put_all.Post T laws copy entry entries clone clones) (λ κs answer exit. held exit.0.now)
+put_all_fixed T laws copy entry entries clone clones κs given answer₁ answer₂ exit₁ exit₂ = one_lent
 
 pub put_machine_fixed : OneOutcome put_machine.Post (λ κs answer exit. held exit.0.now)
 put_machine_fixed κs given answer₁ answer₂ exit₁ exit₂ = one_lent

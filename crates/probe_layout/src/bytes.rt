@@ -88,7 +88,7 @@ impl InBytes for u32 {
 
 // Reads a row from a place on, each entry behind the one before.
 #[tactic(auto, using(crate::proofs::Laws::read_none, crate::proofs::Laws::read_one, crate::proofs::Laws::read_all))]
-pub(crate) fn read_row<T: InBytes>(bytes: &[u8], from: usize, row: &mut [T])
+pub(crate) fn read_all<T: InBytes>(bytes: &[u8], from: usize, row: &mut [T])
     requires { from + T.WIDTH * length row.old ≤ 1048576 }
     ensures { row.new ≡ each (T.read_at bytes.now) T.WIDTH (length row.old) from }
 {
@@ -101,7 +101,7 @@ pub(crate) fn read_row<T: InBytes>(bytes: &[u8], from: usize, row: &mut [T])
 
 // The bytes of a row, each entry's behind those of the one before.
 #[tactic(auto, using(crate::proofs::Laws::row_nothing, crate::proofs::Laws::row_more))]
-pub fn put_row<T: InBytes>(page: &mut Page, row: &[T])
+pub fn put_all<T: InBytes>(page: &mut Page, row: &[T])
     ensures { PutsOn page (one_by_one T.bytes_of row.now) }
 {
     for entry in row {

@@ -10,7 +10,7 @@ ghost use Rattle.std.specs.Prelude.{◌≡◌};
 ghost use Rattle.probe_layout.specs.Layout.{question_in};
 
 use bytes::InBytes;
-pub use bytes::put_row;
+pub use bytes::put_all;
 pub use read::{fits, read_table, state_in};
 pub use write::{put_machine, put_two};
 

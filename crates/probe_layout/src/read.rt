@@ -1,11 +1,11 @@
-// What is read from a question: numbers, party records, columns, and whether all of it fits the layout.
+// What is read from a question: the state, the columns, and whether all of it fits the layout.
 ghost use Rattle.std.specs.Prelude.{◌≡◌, true, ◌+◌, ◌*◌};
 ghost use Rattle.logic.specs.Every.{every};
 ghost use Rattle.list_rows.specs.Table.{table_held, SameColumns};
 ghost use Rattle.probe_layout.specs.Records.{record_fits};
 ghost use Rattle.probe_layout.specs.Layout.{table_in, rooms_fit, table_into, tallies_in, state_in, fits, end_of};
 
-use crate::bytes::{InBytes, read_row};
+use crate::bytes::{InBytes, read_all};
 use crate::question_in;
 use crate::records::record_fits;
 use calls::Tallies;
@@ -29,7 +29,7 @@ pub fn state_in(bytes: &[u8]) -> State
     ensures { result ≡ state_in bytes.now }
 {
     let mut parties = [Party::blank(); 16];
-    read_row(bytes, 43, &mut parties);
+    read_all(bytes, 43, &mut parties);
     State {
         parties,
         count: u8::read(bytes, 23),
@@ -60,10 +60,10 @@ fn read_columns(bytes: &[u8], columns: &mut ColumnsMut<'_>)
     let keys_from = 363 + usize::from(asked.kinds);
     let nexts_from = keys_from + 4 * usize::from(asked.keys);
     let backs_from = nexts_from + 2 * usize::from(asked.nexts);
-    read_row(bytes, 363, columns.kind);
-    read_row(bytes, keys_from, columns.key);
-    read_row(bytes, nexts_from, columns.next);
-    read_row(bytes, backs_from, columns.back);
+    read_all(bytes, 363, columns.kind);
+    read_all(bytes, keys_from, columns.key);
+    read_all(bytes, nexts_from, columns.next);
+    read_all(bytes, backs_from, columns.back);
 }
 
 // Reads the table into columns that have its lengths; others stay.

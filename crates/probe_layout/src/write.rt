@@ -6,7 +6,7 @@ ghost use Rattle.page.specs.Page.{PutsOn};
 ghost use Rattle.probe_layout.specs.Bytes.{low};
 ghost use Rattle.probe_layout.specs.Layout.{state_bytes, machine_bytes};
 
-use crate::bytes::{InBytes, put_row};
+use crate::bytes::{InBytes, put_all};
 use list_party::State;
 use list_rows::Columns;
 use page::Page;
@@ -29,7 +29,7 @@ fn put_state(page: &mut Page, state: &State)
     state.tallies.moves.put_on(page);
     state.tallies.won.put_on(page);
     state.tallies.lost.put_on(page);
-    put_row(page, &state.parties);
+    put_all(page, &state.parties);
 }
 
 // The lengths of the columns, the state, the columns.
@@ -42,8 +42,8 @@ pub fn put_machine(page: &mut Page, columns: &Columns<'_>, state: &State)
     put_two(page, columns.next.len());
     put_two(page, columns.back.len());
     put_state(page, state);
-    put_row(page, columns.kind);
-    put_row(page, columns.key);
-    put_row(page, columns.next);
-    put_row(page, columns.back);
+    put_all(page, columns.kind);
+    put_all(page, columns.key);
+    put_all(page, columns.next);
+    put_all(page, columns.back);
 }

@@ -17,8 +17,8 @@ ghost use Rattle.text.specs.Reading.{
   field_at,
 };
 
-// A place past the end of every text. It stays where an Option could stand: `word`, `read_number`, `read_field` and,
-// above them, `line_at` and `read_head` promise the values of a lost reading too.
+// A place past the end of every text. It stays where an Option could stand: `read_field` and `read_head` promise the
+// values of a lost reading too, and a reading goes on from a lost place, so that a line is one chain without a branch.
 pub const LOST: usize = 18446744073709551615;
 
 // What was read at a place, and the place behind it.

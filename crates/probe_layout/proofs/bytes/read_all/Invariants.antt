@@ -1,7 +1,7 @@
--- The loop of `read_row`: the entries before this one are read, and the next is read behind them.
+-- The loop of `read_all`: the entries before this one are read, and the next is read behind them.
 use Rattle.std.proofs.Common.{◌≡◌, ◌+◌, ◌*◌}
 use Rattle.probe_layout.proofs.Laws.{read_to}
-use Rattle.probe_layout.proofs.bytes.read_row.Given as goal
+use Rattle.probe_layout.proofs.bytes.read_all.Given as goal
 
 abbrev pub invariant-loop-entry : goal.invariant-loop-entry
 invariant-loop-entry g l = record {

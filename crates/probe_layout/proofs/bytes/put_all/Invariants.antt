@@ -1,8 +1,8 @@
--- The loop of `put_row`: the entries before this one are put on.
+-- The loop of `put_all`: the entries before this one are put on.
 use Rattle.std.proofs.Common.{◌≡◌, take}
 use Rattle.page.specs.Page.{page_of, put}
 use Rattle.probe_layout.specs.Bytes.{one_by_one}
-use Rattle.probe_layout.proofs.bytes.put_row.Given as goal
+use Rattle.probe_layout.proofs.bytes.put_all.Given as goal
 
 abbrev pub invariant-loop-entry : goal.invariant-loop-entry
 invariant-loop-entry g l = record {
