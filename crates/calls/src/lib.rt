@@ -83,6 +83,7 @@ impl Call {
         }
     }
 
+    // Which call it is: three promises by name, each with its own definition.
     pub fn is_add(self) -> bool
         ensures { result ≡ is_add self }
     {
@@ -110,7 +111,7 @@ fn one_more(tally: u32) -> u32
 }
 
 impl Tallies {
-    // Nothing counted yet.
+    // Nothing counted yet. (Promised by name, so no `Default`.)
     pub fn none() -> Tallies
         ensures { result ≡ no_tallies }
     {

@@ -76,7 +76,7 @@ fn arrange(order: ByteOrder, mut four: [u8; 4]) -> [u8; 4]
     }
 }
 
-// The four bytes from a place on.
+// The four bytes from a place on. This and the next ask that the field lies in its record, which the tests have shown.
 fn four_at(bytes: &[u8], place: usize) -> [u8; 4]
     requires { place + 4 ≤ length bytes.now }
     ensures { result ≡ bytes_at 4 bytes.now place }

@@ -68,6 +68,7 @@ pub fn set_up(engine: &mut Engine<'_>, parties: u32) -> Result<(), Refusal>
 {
     set_up_asks(&engine.columns.view(), parties)?;
     fresh_table(&mut engine.columns);
+    // There are 16 parties at most.
     engine.state = State::resting(parties as u8, 4);
     Ok(())
 }

@@ -105,7 +105,7 @@ impl Place {
 
 // None of these tests or refuses anything: they make records and states of any numbers.
 impl Party {
-    // Idle without a spare.
+    // Idle without a spare. (Promised by name, so no `Default`.)
     pub fn blank() -> Party
         ensures { result ≡ blank }
     {
@@ -201,6 +201,7 @@ impl State {
     pub fn put_party(&mut self, number: u32, party: Party)
         ensures { self.new ≡ with_party self.old number party }
     {
+        // (`as`, here and in `party_at`: there is no `From` between u32 and usize.)
         let i = number as usize;
         if i < self.parties.len() {
             self.parties[i] = party;

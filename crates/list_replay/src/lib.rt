@@ -70,7 +70,8 @@ fn run_body(text: &[u8], head: Head, engine: &mut Engine<'_>, page: &mut Page<'_
     put_closing(&engine.columns.view(), &engine.state, page);
 }
 
-// Runs the text on a list of its own, of as many rows as its head says.
+// Runs the text on a list of its own, of as many rows as its head says. Its memory is on this function's stack, since
+// nothing is on a heap.
 fn run_new(text: &[u8], head: Head, page: &mut Page<'_>)
     requires { head.nodes ≤ 4096 }
     ensures { PutsOn page (played plain head.order (fresh head.nodes head.parties) 0 (body_of text.now head)) }
@@ -79,6 +80,7 @@ fn run_new(text: &[u8], head: Head, page: &mut Page<'_>)
     let mut key = [0u32; 4096];
     let mut next = [0u16; 4096];
     let mut back = [0u16; 4096];
+    // (`as`: there is no `From` between u32 and usize.)
     let rows = head.nodes as usize;
     let columns = ColumnsMut {
         kind: &mut kind[..rows],

@@ -118,7 +118,7 @@ fn begin(state: &State, party: Party, asked: Asked) -> Begun
 
 // Neither of these tests or refuses anything.
 impl Engine<'_> {
-    // Starts a call of a party.
+    // Starts a call of a party. The call and the key stand apart, as in its definition and in the entry point.
     #[tactic(auto, unfolding(crate::specs::Unchecked::unchecked_call))]
     pub fn call_unchecked(&mut self, number: u32, call: Call, wanted: u32)
         ensures called { machine_of self.new ≡ unchecked_call (machine_of self.old) number call wanted }

@@ -140,7 +140,7 @@ fn ask_in(bytes: &[u8], engine: &mut Engine<'_>, places: &mut [u32], page: &mut 
     put_seen(page, found, places, &engine.columns.view(), &engine.state);
 }
 
-// Makes room for what fits the layout, and asks.
+// Makes room for what fits the layout, and asks. The memory is on this function's stack, since nothing is on a heap.
 fn ask_new(bytes: &[u8], page: &mut Page<'_>)
     requires { fits bytes.now ≡ true }
     ensures { PutsOn page (seen_bytes (seen_of bytes.now)) }

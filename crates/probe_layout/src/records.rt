@@ -10,7 +10,7 @@ use calls::Call;
 use list_party::{Party, Place};
 use page::Page;
 
-// The place of a number, with its call and its key.
+// The place of a number, with its call and its key: no conversion, since a number alone makes no place.
 fn place_numbered(number: u8, call: Call, key: u32) -> Place
     ensures { result ≡ place_numbered number call key }
 {

@@ -11,7 +11,7 @@ use list_party::State;
 use list_rows::Columns;
 use page::Page;
 
-// Two bytes of a number, the low byte first.
+// Two bytes of a number, the low byte first. Lengths are `usize`, and only their two low bytes go out.
 #[tactic(auto, using(crate::proofs::Laws::low_two_alone))]
 pub fn put_two(page: &mut Page, number: usize)
     ensures { PutsOn page (low 2 number) }

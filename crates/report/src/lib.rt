@@ -22,7 +22,7 @@ use calls::{Asked, Call, Said, Tallies};
 use page::Page;
 use refusal::Refusal;
 
-// The name of a call.
+// The name of a call. (By hand, as all that is put on a page: see `Page`, which is no `fmt::Write`.)
 fn put_call(page: &mut Page, call: Call)
     ensures { PutsOn page (name_of call) }
 {

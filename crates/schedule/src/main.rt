@@ -5,6 +5,8 @@ use list_replay::replay;
 use std::io;
 use streams::{front, read_full, room};
 
+// Three lines like those of `probe`: one function for both, given the entry point as a closure, would have to ask of
+// its caller that the closure may be called.
 fn main(rt: HostRuntime) -> io::Result<()> {
     // One byte more than a text may have, so that a longer one shows without being read to its end.
     let mut text = room::<65537>();

@@ -65,7 +65,7 @@ pub fn word(text: &[u8], at: usize, wanted: &[u8]) -> usize
     here
 }
 
-// The decimal digit that a byte writes.
+// The decimal digit that a byte writes. (Apart from `hex`, since `digit_of` and `hex_of` are two definitions.)
 #[tactic(auto, unfolding(crate::specs::Reading::digit_of))]
 fn digit(byte: u8) -> Option<u32>
     ensures { SomeIff result (digit_of byte < 10) (digit_of byte) }
@@ -135,6 +135,7 @@ fn read_pair(text: &[u8], at: usize) -> Reading<u8>
 {
     let second = place_after(text, at);
     match (hex(byte_at(text, at)), hex(byte_at(text, second))) {
+        // Two hex digits make a number below 256.
         (Some(high), Some(low)) => Reading {
             value: (high * 16 + low) as u8,
             next: place_after(text, second),
