@@ -2,7 +2,6 @@
 -- and then it is read as that schedule.
 use Prim.{Unit}
 use Rattle.std.specs.Prelude.{None, ◌≡◌, List, [], ◌∷◌, ℕ, ◌≤◌, length}
-use Rattle.calls.specs.Calls.{code_of}
 use Rattle.script.specs.Head.{rows_of, head_of}
 use Rattle.script.specs.Body.{first_bad, body_of}
 use Rattle.script.specs.declared.Line.{Line}
@@ -22,7 +21,7 @@ OnlyWritten = (text : List ℕ) → length text ≤ 65536 → first_bad text (he
 -- what a line says is what an item says
 abbrev pub Says : Line → Item → Type 0
 Says (Call c) (calls party code digits) =
-    (c.party ≡ party) × (code_of c.call ≡ code) × (c.field ≡ byte_pairs digits)
+    (c.party ≡ party) × (c.code ≡ code) × (c.field ≡ byte_pairs digits)
 Says (Call c) (steps party) = ⊥
 Says (Step number next) (calls party code digits) = ⊥
 Says (Step number next) (steps party) = number ≡ party

@@ -18,7 +18,7 @@ use Rattle.std.specs.Borrow.{GName}
 use Rattle.list_rows.specs.declared.ColumnsMut.{ColumnsMut}
 use Rattle.list_rows.specs.Table.{SameColumns}
 use Rattle.list_rows.proofs.Lent.{names, one_lent}
-use Rattle.list_unchecked.specs.Unchecked.{Machine, machine_of}
+use Rattle.list_unchecked.specs.Unchecked.{Machine, columns_of, machine_of}
 use Rattle.list.proofs.set_up.Reads as set_up
 use Rattle.list.proofs.call_asks.Reads as call_asks
 use Rattle.list.proofs.call.Reads as call
@@ -45,15 +45,15 @@ engine_told A B read told e f first second = one_lent (left_told Machine A B rea
 -- ---- the entry points: the four columns and whose they are, the state and the answer; of a listing its places and the answer
 
 pub set_up_fixed : OneOutcome {Seen = (Machine × Result (Unit {0}) Refusal) × (GName × GName × GName × GName)} set_up.Post
-    (λ κs answer exit. ((machine_of exit.0.now, answer), names exit.0.now.columns))
+    (λ κs answer exit. ((machine_of exit.0.now, answer), names (columns_of exit.0.now)))
 set_up_fixed κs given answer₁ answer₂ exit₁ exit₂ p q = engine_told _ _ (λ done. done) (λ x y same. same) p.0 q.0 p.1 q.1
 
 pub call_fixed : OneOutcome {Seen = (Machine × Result (Unit {0}) Refusal) × (GName × GName × GName × GName)} call.Post
-    (λ κs answer exit. ((machine_of exit.0.now, answer), names exit.0.now.columns))
+    (λ κs answer exit. ((machine_of exit.0.now, answer), names (columns_of exit.0.now)))
 call_fixed κs given answer₁ answer₂ exit₁ exit₂ p q = engine_told _ _ (λ done. done) (λ x y same. same) p.0 q.0 p.1 q.1
 
 pub step_fixed : OneOutcome {Seen = (Machine × Result Said Refusal) × (GName × GName × GName × GName)} step.Post
-    (λ κs answer exit. ((machine_of exit.0.now, answer), names exit.0.now.columns))
+    (λ κs answer exit. ((machine_of exit.0.now, answer), names (columns_of exit.0.now)))
 step_fixed κs given answer₁ answer₂ exit₁ exit₂ p q = engine_told _ _ word_of words_differ p.0 q.0 p.1 q.1
 
 pub listing_fixed : OneOutcome {Seen = List ℕ × Result ℕ Refusal} listing.Post (λ κs answer exit. (exit.1.1.0.now, answer))

@@ -6,7 +6,7 @@ ghost use Rattle.refusal.specs.Answer.{left, accepted, passed, answering, verdic
 ghost use Rattle.calls.specs.Calls.{call_named};
 ghost use Rattle.calls.specs.Words.{reply_is};
 ghost use Rattle.list_rows.specs.Table.{table_of, SameColumns};
-ghost use Rattle.list_unchecked.specs.Unchecked.{machine, machine_of};
+ghost use Rattle.list_unchecked.specs.Unchecked.{machine, columns_of, machine_of};
 ghost use Rattle.list.specs.Engine.{
   bad_table,
   form_tests,
@@ -28,7 +28,7 @@ use list_chain::{chain_rises, live_count, write_live};
 use list_form::{columns_agree, good_form};
 use list_fresh::fresh_table;
 use list_party::State;
-use list_rows::Columns;
+use list_rows::{Columns, ColumnsMut};
 use list_unchecked::Engine;
 use refusal::Refusal;
 
@@ -64,10 +64,16 @@ fn set_up_asks(columns: &Columns<'_>, parties: u32) -> Result<(), Refusal>
 #[tactic(auto, unfolding(crate::specs::Engine::set_up_of))]
 pub fn set_up(engine: &mut Engine<'_>, parties: u32) -> Result<(), Refusal>
     ensures leaves { left (machine_of engine.new) (verdict_is result) ≡ set_up_of (machine_of engine.old) parties }
-    ensures lent { SameColumns engine.old.columns engine.new.columns }
+    ensures lent { SameColumns (columns_of engine.old) (columns_of engine.new) }
 {
-    set_up_asks(&engine.columns.view(), parties)?;
-    fresh_table(&mut engine.columns);
+    set_up_asks(&engine.view(), parties)?;
+    let mut columns = ColumnsMut {
+        kind: engine.kind,
+        key: engine.key,
+        next: engine.next,
+        back: engine.back,
+    };
+    fresh_table(&mut columns);
     // There are 16 parties at most.
     engine.state = State::resting(parties as u8, 4);
     Ok(())
@@ -134,10 +140,10 @@ fn form_asks(columns: &Columns<'_>, state: &State) -> Result<(), Refusal>
 pub fn call(engine: &mut Engine<'_>, number: u32, code: u32, wanted: u32) -> Result<(), Refusal>
     ensures leaves { left (machine_of engine.new) (verdict_is result)
         ≡ call_of (machine_of engine.old) number code wanted }
-    ensures lent { SameColumns engine.old.columns engine.new.columns }
+    ensures lent { SameColumns (columns_of engine.old) (columns_of engine.new) }
 {
-    form_asks(&engine.columns.view(), &engine.state)?;
-    let call = call_asks(&engine.state, engine.columns.kind.len(), number, code)?;
+    form_asks(&engine.view(), &engine.state)?;
+    let call = call_asks(&engine.state, engine.kind.len(), number, code)?;
     engine.call_unchecked(number, call, wanted);
     Ok(())
 }
@@ -146,9 +152,9 @@ pub fn call(engine: &mut Engine<'_>, number: u32, code: u32, wanted: u32) -> Res
 #[tactic(auto, unfolding(crate::specs::Engine::move_of))]
 pub fn step(engine: &mut Engine<'_>, number: u32) -> Result<Said, Refusal>
     ensures leaves { left (machine_of engine.new) (reply_is result) ≡ move_of (machine_of engine.old) number }
-    ensures lent { SameColumns engine.old.columns engine.new.columns }
+    ensures lent { SameColumns (columns_of engine.old) (columns_of engine.new) }
 {
-    form_asks(&engine.columns.view(), &engine.state)?;
+    form_asks(&engine.view(), &engine.state)?;
     move_asks(&engine.state, number)?;
     Ok(engine.step_unchecked(number))
 }

@@ -6,7 +6,7 @@ use Rattle.list_unchecked.specs.Unchecked.{Machine, unchecked_call, unchecked_mo
 use Rattle.list_form.specs.Form.{rows_in}
 use Rattle.field.specs.Field.{load_of}
 use Rattle.list.specs.Engine.{call_asks, move_asks, accepting}
-use Rattle.calls.specs.Calls.{call_named, code_of}
+use Rattle.calls.specs.Calls.{call_named}
 use Rattle.list.specs.Run.{Event, calls, moves, going}
 use Rattle.script.specs.declared.CallLine.{CallLine}
 use Rattle.script.specs.declared.Line.{Line}
@@ -40,7 +40,7 @@ party_in Bad = 0
 
 -- the load of the key comes before the call; what refuses it refuses the line
 unfoldable pub loaded : TakesEvent → Machine → CallLine → Answer ℕ → Left Machine Word
-loaded takes m c (accepted key) = takes m (calls c.party (code_of c.call) key)
+loaded takes m c (accepted key) = takes m (calls c.party c.code key)
 loaded takes m c (refused number) = left m (refused number)
 
 -- what a line leaves, and its answer; the order is the code of the byte order that the head names

@@ -3,16 +3,15 @@
 
 ghost use Rattle.std.specs.Prelude.{◌≡◌};
 ghost use Rattle.refusal.specs.Answer.{left};
-ghost use Rattle.calls.specs.Calls.{code_of};
 ghost use Rattle.calls.specs.Words.{reply_is};
 ghost use Rattle.list_rows.specs.Table.{SameColumns};
-ghost use Rattle.list_unchecked.specs.Unchecked.{machine_of};
+ghost use Rattle.list_unchecked.specs.Unchecked.{columns_of, machine_of};
 ghost use Rattle.list.specs.Run.{calls, moves};
 ghost use Rattle.field.specs.Field.{load_of};
 ghost use Rattle.field.specs.Readings.{loaded_is};
 ghost use Rattle.list_play.specs.Play.{plain_event, field_in, party_in, loaded, line_of};
 
-use calls::{Call, Said};
+use calls::Said;
 use list::{call_asks, move_asks};
 use list_unchecked::Engine;
 use refusal::Refusal;
@@ -20,13 +19,13 @@ use script::{CallLine, Line};
 
 // Starts a call of a party.
 #[tactic(auto, unfolding(crate::specs::Play::plain_event))]
-fn plain_call(engine: &mut Engine<'_>, party: u32, call: Call, wanted: u32) -> Result<Said, Refusal>
+fn plain_call(engine: &mut Engine<'_>, party: u32, code: u32, wanted: u32) -> Result<Said, Refusal>
     ensures leaves { left (machine_of engine.new) (reply_is result)
-        ≡ plain_event (machine_of engine.old) (calls party (code_of call) wanted) }
-    ensures lent { SameColumns engine.old.columns engine.new.columns }
+        ≡ plain_event (machine_of engine.old) (calls party code wanted) }
+    ensures lent { SameColumns (columns_of engine.old) (columns_of engine.new) }
 {
-    let rows = engine.columns.kind.len();
-    let call = call_asks(&engine.state, rows, party, u32::from(call.code()))?;
+    let rows = engine.kind.len();
+    let call = call_asks(&engine.state, rows, party, code)?;
     engine.call_unchecked(party, call, wanted);
     Ok(Said::Nothing)
 }
@@ -36,7 +35,7 @@ fn plain_call(engine: &mut Engine<'_>, party: u32, call: Call, wanted: u32) -> R
 fn plain_move(engine: &mut Engine<'_>, party: u32) -> Result<Said, Refusal>
     ensures leaves { left (machine_of engine.new) (reply_is result)
         ≡ plain_event (machine_of engine.old) (moves party) }
-    ensures lent { SameColumns engine.old.columns engine.new.columns }
+    ensures lent { SameColumns (columns_of engine.old) (columns_of engine.new) }
 {
     move_asks(&engine.state, party)?;
     Ok(engine.step_unchecked(party))
@@ -56,10 +55,10 @@ fn load_field(line: CallLine, order: u32) -> Result<u32, Refusal>
 fn play_call(engine: &mut Engine<'_>, order: u32, line: CallLine) -> Result<Said, Refusal>
     ensures leaves { left (machine_of engine.new) (reply_is result)
         ≡ loaded plain_event (machine_of engine.old) line (load_of (field_in line) 0 order) }
-    ensures lent { SameColumns engine.old.columns engine.new.columns }
+    ensures lent { SameColumns (columns_of engine.old) (columns_of engine.new) }
 {
     let wanted = load_field(line, order)?;
-    plain_call(engine, line.party, line.call, wanted)
+    plain_call(engine, line.party, line.code, wanted)
 }
 
 // The party that a line names; where it names none, 0.
@@ -79,7 +78,7 @@ pub fn party_in(line: Line) -> u32
 pub fn play_line(engine: &mut Engine<'_>, order: u32, line: Line) -> Result<Said, Refusal>
     ensures leaves { left (machine_of engine.new) (reply_is result)
         ≡ line_of plain_event order (machine_of engine.old) line }
-    ensures lent { SameColumns engine.old.columns engine.new.columns }
+    ensures lent { SameColumns (columns_of engine.old) (columns_of engine.new) }
 {
     match line {
         Line::Call(c) => play_call(engine, order, c),

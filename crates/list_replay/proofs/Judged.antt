@@ -14,12 +14,13 @@ use Rattle.list.specs.Engine.{set_up_of}
 use Rattle.list.specs.Run.{run, unset, fresh}
 use Rattle.list_grown.specs.History.{keys_are_32}
 use Rattle.report.specs.Lines.{bad_line}
+use Rattle.text.specs.Reading.{lost}
 use Rattle.script.specs.declared.Head.{Head}
 use Rattle.script.specs.Head.{head_of}
 use Rattle.script.specs.Body.{most_lines, body_of, first_bad}
 use Rattle.script.proofs.Progress.{good_head}
 use Rattle.logic.proofs.Cases.{by_test}
-use Rattle.list_replay.specs.Output.{checked, plain, played, judged, output_by, output_of}
+use Rattle.list_replay.specs.Output.{Runner, checked, plain, played, judged, output_by, output_of}
 use Rattle.list_replay.specs.Claims.{SameOutput, end_of, ListingStands}
 use Rattle.list_replay.proofs.Sound.{Sound, sound_listing}
 use Rattle.list_replay.proofs.Same.{body_fits, SameRun, run_same, played_same}
@@ -46,9 +47,6 @@ set_up_passes rows parties low high some few =
     )
 
 module _ (text : List ℕ) (short : length text ≤ 65536) (good : (head_of text).bad ≡ None) where
-  rows_fit : (head_of text).nodes ≤ 4096
-  rows_fit = (good_head text (omega arith) good).3
-
   pub sound_fresh : Sound (fresh (head_of text).nodes (head_of text).parties)
   unfolding run keys_are_32
   sound_fresh =
@@ -93,24 +91,36 @@ listing_stands text places short good enough = sound_listing (end_of text) (good
 
 -- ---- the output in the three cases, and what a good head is known for
 
-module _ (text : List ℕ) where
-  pub out_large : 65536 < length text → bad_line 0 ≡ output_of text
+module _ (e : Runner) (text : List ℕ) where
+  pub out_large : 65536 < length text → bad_line 0 ≡ output_by e text
   unfolding output_by
   out_large long = rw (lt-ltb 65536 (length text) long)
 
-  out_small : length text ≤ 65536 → judged checked text (head_of text) (first_bad text (head_of text)) ≡ output_of text
+  out_small : length text ≤ 65536 → judged e text (head_of text) (first_bad text (head_of text)) ≡ output_by e text
   unfolding output_by
   out_small short = rw (le-ltb 65536 (length text) short)
 
-  pub out_bad : {line : ℕ} → length text ≤ 65536 → first_bad text (head_of text) ≡ Some line → bad_line line ≡ output_of text
-  out_bad short is = ap (judged checked text (head_of text)) (sym is) ∙ out_small short
+  pub out_bad : {line : ℕ} → length text ≤ 65536 → first_bad text (head_of text) ≡ Some line → bad_line line ≡ output_by e text
+  out_bad short is = ap (judged e text (head_of text)) (sym is) ∙ out_small short
 
   pub out_good : length text ≤ 65536 → first_bad text (head_of text) ≡ None →
+      played e (head_of text).order (fresh (head_of text).nodes (head_of text).parties) 0 (body_of text (head_of text)) ≡ output_by e text
+  out_good short is = ap (judged e text (head_of text)) (sym is) ∙ out_small short
+
+-- the same of what the code prints: it runs a good text by the plain engine
+module _ (text : List ℕ) where
+  pub too_large : 65536 < length text → bad_line 0 ≡ output_of text
+  too_large = out_large checked text
+
+  pub bad_there : {line : ℕ} → length text ≤ 65536 → first_bad text (head_of text) ≡ Some line → bad_line line ≡ output_of text
+  bad_there = out_bad checked text
+
+  pub none_bad : length text ≤ 65536 → first_bad text (head_of text) ≡ None →
       played plain (head_of text).order (fresh (head_of text).nodes (head_of text).parties) 0 (body_of text (head_of text)) ≡ output_of text
-  out_good short is =
-      judged_same text short None is ∙ ap (judged checked text (head_of text)) (sym is) ∙ out_small short
+  none_bad short is = out_good plain text short is ∙ same_output text
 
-  pub rows_few : length text ≤ 65536 → first_bad text (head_of text) ≡ None → (head_of text).nodes ≤ 4096
-  rows_few short is = rows_fit text short (head_good text (head_of text) is)
+  -- of a text of any length that a slice can have
+  pub rows_few : length text < lost → first_bad text (head_of text) ≡ None → (head_of text).nodes ≤ 4096
+  rows_few small is = (good_head text small (head_good text (head_of text) is)).3
 
-pub ruleset out_cases = (out_large, out_bad, out_good, rows_few)
+pub ruleset out_cases = (too_large, bad_there, none_bad, rows_few)

@@ -20,7 +20,6 @@ use Rattle.field.proofs.Numbers.{number_below_power}
 use Rattle.list.specs.Engine.{live_keys}
 use Rattle.list.specs.Run.{calls, moves, event_of}
 use Rattle.report.specs.Lines.{key_lines, tally_lines}
-use Rattle.calls.specs.Calls.{code_of}
 use Rattle.text.specs.Reading.{lost}
 use Rattle.text.proofs.Bytes.{field_is_bytes}
 use Rattle.script.specs.declared.CallLine.{CallLine}
@@ -97,7 +96,7 @@ call_same : (order : ℕ) (m : Machine) (c : CallLine) (answer : Answer ℕ) →
     (loaded plain_event m c answer ≡ loaded event_of m c answer) × Sound (loaded event_of m c answer).memory
 unfolding loaded
 call_same order m c (accepted key) e s all =
-    (plain_same m s (calls c.party (code_of c.call) key), sound_event m (calls c.party (code_of c.call) key) s (key_small c order key all e))
+    (plain_same m s (calls c.party c.code key), sound_event m (calls c.party c.code key) s (key_small c order key all e))
 call_same order m c (refused number) e s all = (refl, s)
 
 line_same : (order : ℕ) (m : Machine) (line : Line) → Sound m → Fits line → SameLine order m line

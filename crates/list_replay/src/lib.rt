@@ -4,7 +4,7 @@
 ghost use Rattle.std.specs.Prelude.{◌≡◌, ◌≤◌};
 ghost use Rattle.page.specs.Page.{Puts, PutsOn};
 ghost use Rattle.list_rows.specs.Table.{table_of, SameColumns};
-ghost use Rattle.list_unchecked.specs.Unchecked.{machine, machine_of};
+ghost use Rattle.list_unchecked.specs.Unchecked.{machine, columns_of, machine_of};
 ghost use Rattle.list.specs.Run.{fresh};
 ghost use Rattle.report.specs.Lines.{key_lines};
 ghost use Rattle.script.specs.Body.{body_of};
@@ -14,7 +14,7 @@ ghost use Rattle.list_replay.specs.Output.{listed, closing, plain, line_says, pl
 use list::{listing, set_up};
 use list_party::State;
 use list_play::{party_in, play_line};
-use list_rows::{Columns, ColumnsMut};
+use list_rows::Columns;
 use list_unchecked::Engine;
 use page::Page;
 use report::{put_bad, put_keys, put_reply, put_tallies};
@@ -24,7 +24,7 @@ use script::{Head, Line, ends_body, first_bad, line_at, most_lines, next_of, rea
 #[tactic(auto, unfolding(crate::specs::Output::line_says))]
 fn run_line(engine: &mut Engine<'_>, order: u32, line: Line, number: usize, page: &mut Page<'_>)
     ensures plays { machine_of engine.new ≡ (line_of plain_event order (machine_of engine.old) line).memory }
-    ensures lent { SameColumns engine.old.columns engine.new.columns }
+    ensures lent { SameColumns (columns_of engine.old) (columns_of engine.new) }
     ensures says { PutsOn page (line_says plain_event order (machine_of engine.old) number line) }
 {
     let party = party_in(line);
@@ -67,7 +67,7 @@ fn run_body(text: &[u8], head: Head, engine: &mut Engine<'_>, page: &mut Page<'_
         run_line(engine, head.order, line, seen + 4, page);
         at = next_of(line);
     }
-    put_closing(&engine.columns.view(), &engine.state, page);
+    put_closing(&engine.view(), &engine.state, page);
 }
 
 // Runs the text on a list of its own, of as many rows as its head says. Its memory is on this function's stack, since
@@ -82,14 +82,11 @@ fn run_new(text: &[u8], head: Head, page: &mut Page<'_>)
     let mut back = [0u16; 4096];
     // (`as`: there is no `From` between u32 and usize.)
     let rows = head.nodes as usize;
-    let columns = ColumnsMut {
+    let mut engine = Engine {
         kind: &mut kind[..rows],
         key: &mut key[..rows],
         next: &mut next[..rows],
         back: &mut back[..rows],
-    };
-    let mut engine = Engine {
-        columns,
         state: State::resting(0, 0),
     };
     // With a good head a set-up is never refused.

@@ -10,6 +10,7 @@ use Rattle.list_party.specs.declared.State.{State}
 use Rattle.list_party.specs.Party.{party_record, goes_to}
 use Rattle.list_party.specs.State.{party_at, with_party, with_taken, tallied}
 use Rattle.list_rows.specs.declared.Write.TheVariants.{Untouched, Item}
+use Rattle.list_rows.specs.declared.ColumnsMut.{ColumnsMut}
 use Rattle.list_rows.specs.Table.{Table, table_held, head, head_nxt}
 use Rattle.list_rows.specs.Writes.{written}
 use Rattle.list_moves.specs.declared.Moved.{Moved}
@@ -25,9 +26,13 @@ pub record Machine : Type 0 where
 abbrev pub machine : Table → State → Machine
 machine table state = record { table = table; state = state }
 
+-- the four lent columns of an engine
+abbrev pub columns_of : Engine → ColumnsMut
+columns_of engine = record { kind = engine.kind; key = engine.key; next = engine.next; back = engine.back }
+
 -- what the code works on: the four lent columns and the state
 abbrev pub machine_of : Engine → Machine
-machine_of engine = machine (table_held engine.columns) engine.state
+machine_of engine = machine (table_held (columns_of engine)) engine.state
 
 -- party i of the machine
 abbrev pub party_of : Machine → ℕ → Party

@@ -4,9 +4,14 @@
 
 ghost use Rattle.std.specs.Prelude.{◌≡◌};
 ghost use Rattle.calls.specs.declared.Call.TheVariants.{Contains};
-ghost use Rattle.list_rows.specs.Table.{SameColumns};
+ghost use Rattle.list_rows.specs.Table.{table_of, table_held, SameColumns};
+ghost use Rattle.list_rows.specs.Writes.{written};
+ghost use Rattle.list_moves.specs.Moves.{move_at};
 ghost use Rattle.list_unchecked.specs.Unchecked.{
+  columns_of,
+  machine,
   machine_of,
+  party_of,
   own_row,
   taken_then,
   starting,
@@ -18,14 +23,18 @@ ghost use Rattle.list_unchecked.specs.Unchecked.{
 };
 
 use calls::{Asked, Call, Said};
-use list_moves::place_move;
+use list_moves::{Moved, place_move};
 use list_party::{Party, Place, State, Values, one_taken};
-use list_rows::{ColumnsMut, Row, Write};
+use list_rows::{Columns, ColumnsMut, Row, Write};
 
-// All that the engine works on: the four lent columns and the state.
+// All that the engine works on: the four lent columns and the state. The columns stand in it side by side: of slices
+// in a struct within a struct the proofs would not tell the one who lent them what they hold afterwards.
 #[derive(Drop)]
 pub struct Engine<'a> {
-    pub columns: ColumnsMut<'a>,
+    pub kind: &'a mut [u8],
+    pub key: &'a mut [u32],
+    pub next: &'a mut [u16],
+    pub back: &'a mut [u16],
     pub state: State,
 }
 
@@ -116,29 +125,63 @@ fn begin(state: &State, party: Party, asked: Asked) -> Begun
     }
 }
 
-// Neither of these tests or refuses anything.
+// None of these tests or refuses anything.
 impl Engine<'_> {
+    // The columns, lent on to be read.
+    pub fn view(&self) -> Columns<'_>
+        ensures { table_of result ≡ table_held (columns_of self.now) }
+    {
+        Columns {
+            kind: self.kind,
+            key: self.key,
+            next: self.next,
+            back: self.back,
+        }
+    }
+
+    // Makes a write in the columns.
+    fn apply(&mut self, what: Write)
+        ensures written { machine_of self.new ≡ machine (written what (machine_of self.old).table) self.old.state }
+        ensures lent { SameColumns (columns_of self.old) (columns_of self.new) }
+    {
+        let mut columns = ColumnsMut {
+            kind: self.kind,
+            key: self.key,
+            next: self.next,
+            back: self.back,
+        };
+        columns.apply(what);
+    }
+
     // Starts a call of a party. The call and the key stand apart, as in its definition and in the entry point.
     #[tactic(auto, unfolding(crate::specs::Unchecked::unchecked_call))]
     pub fn call_unchecked(&mut self, number: u32, call: Call, wanted: u32)
         ensures called { machine_of self.new ≡ unchecked_call (machine_of self.old) number call wanted }
-        ensures lent { SameColumns self.old.columns self.new.columns }
+        ensures lent { SameColumns (columns_of self.old) (columns_of self.new) }
     {
         let asked = Asked { call, key: wanted };
         let begun = begin(&self.state, self.state.party_at(number), asked);
-        self.columns.apply(begun.write);
+        self.apply(begun.write);
         self.state.put_party(number, begun.party);
         self.state.put_taken(begun.taken);
+    }
+
+    // What a move of a party comes to.
+    fn moved(&self, number: u32) -> Moved
+        ensures { result ≡ move_at (party_of (machine_of self.now) number).place (machine_of self.now).table
+            (party_of (machine_of self.now) number) }
+    {
+        place_move(&self.view(), self.state.party_at(number))
     }
 
     // Makes one move of a party; of an idle one, none.
     #[tactic(auto, unfolding(crate::specs::Unchecked::unchecked_move))]
     pub fn step_unchecked(&mut self, number: u32) -> Said
         ensures moved { made (machine_of self.new) result ≡ unchecked_move (machine_of self.old) number }
-        ensures lent { SameColumns self.old.columns self.new.columns }
+        ensures lent { SameColumns (columns_of self.old) (columns_of self.new) }
     {
-        let moved = place_move(&self.columns.view(), self.state.party_at(number));
-        self.columns.apply(moved.write);
+        let moved = self.moved(number);
+        self.apply(moved.write);
         self.state.put_party(number, moved.party);
         self.state.tally(moved.access);
         moved.said

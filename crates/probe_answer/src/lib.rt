@@ -5,10 +5,10 @@ ghost use Rattle.std.specs.Prelude.{◌≡◌, true};
 ghost use Rattle.refusal.specs.Answer.{answer_is, left, verdict_is};
 ghost use Rattle.list_rows.specs.Table.{table_of, table_held, SameColumns};
 ghost use Rattle.page.specs.Page.{Puts, PutsOn};
-ghost use Rattle.list_unchecked.specs.Unchecked.{machine, machine_of};
+ghost use Rattle.list_unchecked.specs.Unchecked.{machine, columns_of, machine_of};
 ghost use Rattle.list.specs.Answers.{listed_is};
 ghost use Rattle.calls.specs.Words.{word_of, reply_is};
-ghost use Rattle.probe_layout.specs.Layout.{places_in, rooms_fit, fits};
+ghost use Rattle.probe_layout.specs.Layout.{places_in, rooms_fit, fits, table_into, state_in};
 ghost use Rattle.probe_answer.specs.Probe.{
   unwritten,
   word_number,
@@ -105,14 +105,14 @@ fn listing_found(done: Result<usize, Refusal>) -> Found
 fn ask(asked: Question, engine: &mut Engine<'_>, places: &mut [u32]) -> Found
     ensures answers { seen_is (machine_of engine.new) places.new result
         ≡ seen_by asked.what (machine_of engine.old) asked.party asked.code asked.key places.old }
-    ensures lent { SameColumns engine.old.columns engine.new.columns }
+    ensures lent { SameColumns (columns_of engine.old) (columns_of engine.new) }
 {
     let party = asked.party;
     match asked.what {
         0 => done_found(set_up(engine, party)),
         1 => done_found(call(engine, party, asked.code, asked.key)),
         2 => move_found(step(engine, party)),
-        _ => listing_found(listing(&engine.columns.view(), &engine.state, places)),
+        _ => listing_found(listing(&engine.view(), &engine.state, places)),
     }
 }
 
@@ -128,16 +128,31 @@ fn put_seen(page: &mut Page<'_>, found: Found, places: &[u32], columns: &Columns
     put_machine(page, columns, state);
 }
 
+// Reads the table and the state into the rooms.
+fn read_in(bytes: &[u8], engine: &mut Engine<'_>)
+    ensures read { machine_of engine.new
+        ≡ machine (table_into bytes.now (machine_of engine.old).table) (state_in bytes.now) }
+    ensures lent { SameColumns (columns_of engine.old) (columns_of engine.new) }
+{
+    let mut columns = ColumnsMut {
+        kind: engine.kind,
+        key: engine.key,
+        next: engine.next,
+        back: engine.back,
+    };
+    read_table(bytes, &mut columns);
+    engine.state = state_in(bytes);
+}
+
 // Reads the state into the rooms, asks, and writes all that is seen.
 fn ask_in(bytes: &[u8], engine: &mut Engine<'_>, places: &mut [u32], page: &mut Page<'_>)
-    requires { (rooms_fit bytes.now (table_held engine.old.columns) ≡ true)
+    requires { (rooms_fit bytes.now (table_held (columns_of engine.old)) ≡ true)
         × (places.old ≡ unwritten (places_in bytes.now)) }
     ensures { PutsOn page (seen_bytes (seen_of bytes.now)) }
 {
-    read_table(bytes, &mut engine.columns);
-    engine.state = state_in(bytes);
+    read_in(bytes, engine);
     let found = ask(question_in(bytes), engine, places);
-    put_seen(page, found, places, &engine.columns.view(), &engine.state);
+    put_seen(page, found, places, &engine.view(), &engine.state);
 }
 
 // Makes room for what fits the layout, and asks. The memory is on this function's stack, since nothing is on a heap.
@@ -151,14 +166,11 @@ fn ask_new(bytes: &[u8], page: &mut Page<'_>)
     let mut back = [0u16; 4200];
     let mut places = [4008636142u32; 4200];
     let asked = question_in(bytes);
-    let columns = ColumnsMut {
+    let mut engine = Engine {
         kind: &mut kind[..usize::from(asked.kinds)],
         key: &mut key[..usize::from(asked.keys)],
         next: &mut next[..usize::from(asked.nexts)],
         back: &mut back[..usize::from(asked.backs)],
-    };
-    let mut engine = Engine {
-        columns,
         state: State::resting(0, 0),
     };
     ask_in(

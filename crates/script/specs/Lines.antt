@@ -2,7 +2,7 @@
 use Rattle.std.specs.Prelude.{List, Bool, true, false, cond, ℕ, eqb, leb}
 use Rattle.calls.specs.declared.Call.{Call as Verb}
 use Rattle.calls.specs.declared.Call.TheVariants.{Add, Remove, Contains}
-use Rattle.calls.specs.Calls.{spaced}
+use Rattle.calls.specs.Calls.{code_of, spaced}
 use Rattle.text.specs.Reading.{lost, word, only, numeral, number_at, field_at}
 use Rattle.logic.specs.Quoted.{bytes}
 use Rattle.text.specs.declared.Reading.{Reading}
@@ -35,7 +35,7 @@ call_line text at =
     let f = field_at text v.next in
     record {
       party = n.value;
-      call = v.value;
+      code = code_of v.value;
       field = f.value;
       next = only (leb n.value 99) (line_end text f.next);
     }

@@ -1,0 +1,2 @@
+-- That the contracts leave no choice.
+pub mod Determined
