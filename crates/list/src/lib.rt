@@ -68,10 +68,10 @@ pub fn set_up(engine: &mut Engine<'_>, parties: u32) -> Result<(), Refusal>
 {
     set_up_asks(&engine.view(), parties)?;
     let mut columns = ColumnsMut {
-        kind: engine.kind,
-        key: engine.key,
-        next: engine.next,
-        back: engine.back,
+        kind: &mut *engine.kind,
+        key: &mut *engine.key,
+        next: &mut *engine.next,
+        back: &mut *engine.back,
     };
     fresh_table(&mut columns);
     // There are 16 parties at most.

@@ -145,10 +145,10 @@ impl Engine<'_> {
         ensures lent { SameColumns (columns_of self.old) (columns_of self.new) }
     {
         let mut columns = ColumnsMut {
-            kind: self.kind,
-            key: self.key,
-            next: self.next,
-            back: self.back,
+            kind: &mut *self.kind,
+            key: &mut *self.key,
+            next: &mut *self.next,
+            back: &mut *self.back,
         };
         columns.apply(what);
     }

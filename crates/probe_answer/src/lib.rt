@@ -135,10 +135,10 @@ fn read_in(bytes: &[u8], engine: &mut Engine<'_>)
     ensures lent { SameColumns (columns_of engine.old) (columns_of engine.new) }
 {
     let mut columns = ColumnsMut {
-        kind: engine.kind,
-        key: engine.key,
-        next: engine.next,
-        back: engine.back,
+        kind: &mut *engine.kind,
+        key: &mut *engine.key,
+        next: &mut *engine.next,
+        back: &mut *engine.back,
     };
     read_table(bytes, &mut columns);
     engine.state = state_in(bytes);
